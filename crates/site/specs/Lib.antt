@@ -1,0 +1,5 @@
+pub mod Limits
+pub mod Map
+pub mod Paths
+pub mod Refusals
+pub mod Conditions

@@ -1,0 +1,108 @@
+-- "Refusals by number, in this order" of document 01: 1 to 8 with their places.
+use mathlib.Core.Bool.{Bool, true, false, not, _&&_, _||_}
+use mathlib.Core.List.{List}
+use Prim.Native.Nat.{ℕ, _+_, _-_, _*_, _/_, _%_}
+use lib.Dec.{eqb, ltb}
+use lib.ListN.{length, getD}
+use Rattle.basics.specs.Counting.{firstFrom}
+use Rattle.site.specs.Limits.{mostRadios, mostLinks, mostPaths}
+use Rattle.site.specs.Map.{Site, links, A}
+use Rattle.site.specs.declared.Finding.{Finding}
+use Rattle.site.specs.declared.Finding.the-variants.{Sound, Bad}
+use Rattle.site.specs.declared.Verdict.{Verdict}
+use Rattle.site.specs.declared.Verdict.the-variants.{Accepted, Radios, TableLength, Cell, Links, Ends, Wanted, Log, Lists}
+
+-- what a caller hands over: the map and its ends, the number of paths wanted, and the lengths of the three lent buffers
+pub record Call : Type 0 where
+  pub site : Site
+  pub k : ℕ
+  pub logLength : ℕ
+  pub pathsLength : ℕ
+  pub cutLength : ℕ
+
+abbrev pub callOf : ℕ → List ℕ → ℕ → ℕ → ℕ → ℕ → ℕ → ℕ → Call
+callOf n table S T k log paths cut = record { site = record { n = n; table = table; S = S; T = T }; k = k; logLength = log; pathsLength = paths; cutLength = cut }
+
+-- ---- 3: the table's cells
+
+-- a cell of row i and column j is bad: it is not 0 or 1, or is on the diagonal and not 0, or differs from its mirror cell
+unfoldable pub bad : ℕ → ℕ → ℕ → ℕ → Bool
+bad i j cell mirror = ltb 1 cell || (eqb i j && not (eqb cell 0)) || not (eqb cell mirror)
+
+-- the same of the table's own cells
+unfoldable pub badAt : List ℕ → ℕ → ℕ → ℕ → Bool
+badAt table n i j = bad i j (getD table (i * n + j) 0) (getD table (j * n + i) 0)
+
+-- places are counted from 0 in row order
+unfoldable pub badCell : List ℕ → ℕ → ℕ → Bool
+badCell table n place = badAt table n (place / n) (place % n)
+
+-- the place of the first bad cell in row order; n·n where there is none
+unfoldable pub firstBad : List ℕ → ℕ → ℕ
+firstBad table n = firstFrom (badCell table n) 0 (n * n)
+
+-- what the check of the table finds
+unfoldable pub finding : List ℕ → ℕ → Finding
+finding table n = elim (ltb (firstBad table n) (n * n)) [ true ↦ Bad (firstBad table n) | false ↦ Sound ]
+
+-- ---- 7 and 8: how much a run may need
+
+-- the most messages that a run of k paths may send
+abbrev pub mostMessages : Site → ℕ → ℕ
+mostMessages site k = (2 * k + 1) * A site
+
+abbrev pub logNeeds : Site → ℕ → ℕ
+logNeeds site k = 4 * mostMessages site k
+
+abbrev pub pathsNeed : Site → ℕ → ℕ
+pathsNeed site k = site .n - 2 + 3 * k
+
+-- ---- the first reason against a call
+
+-- the verdict v if the test holds, else what comes after it
+abbrev pub refuse : Bool → Verdict → Verdict → Verdict
+refuse true v rest = v
+refuse false v rest = rest
+
+-- a finding on the table is passed on
+abbrev pub passed : Finding → Verdict → Verdict
+passed Sound rest = rest
+passed (Bad place) rest = Cell place
+
+unfoldable pub verdict : Call → Verdict
+verdict call =
+    let site = call .site in
+    let n = site .n in
+    refuse (ltb n 2 || ltb mostRadios n) Radios (
+    refuse (not (eqb (length (site .table)) (n * n))) TableLength (
+    passed (finding (site .table) n) (
+    refuse (ltb mostLinks (links (site .table) n)) Links (
+    refuse (not (ltb (site .S) n) || not (ltb (site .T) n) || eqb (site .S) (site .T)) Ends (
+    refuse (eqb (call .k) 0 || ltb mostPaths (call .k)) Wanted (
+    refuse (ltb (call .logLength) (logNeeds site (call .k))) Log (
+    refuse (ltb (call .pathsLength) (pathsNeed site (call .k)) || ltb (call .cutLength) (call .k)) Lists
+    Accepted)))))))
+
+-- document 01's number for each verdict; 0 is none
+abbrev pub number : Verdict → ℕ
+number Accepted = 0
+number Radios = 1
+number TableLength = 2
+number (Cell place) = 3
+number Links = 4
+number Ends = 5
+number Wanted = 6
+number Log = 7
+number Lists = 8
+
+-- its place: only a cell has one
+abbrev pub placeOf : Verdict → ℕ
+placeOf Accepted = 0
+placeOf Radios = 0
+placeOf TableLength = 0
+placeOf (Cell place) = place
+placeOf Links = 0
+placeOf Ends = 0
+placeOf Wanted = 0
+placeOf Log = 0
+placeOf Lists = 0

@@ -1,0 +1,174 @@
+-- "The token rules" of document 01, 1 to 7, as one inner step of the machine: it sends a message and delivers it, or the run is over.
+-- `elim b [ true ↦ x | false ↦ y ]` reads: x if b holds, else y.
+use mathlib.Core.Bool.{Bool, true, false, not, _&&_, _||_}
+use Prim.Native.Nat.{ℕ, suc, _+_, _-_}
+use lib.Dec.{eqb, ltb}
+use Rattle.basics.specs.Counting.{firstFrom}
+use Rattle.site.specs.Map.{Site, inHalf, outHalf, radioOf, isOut, step}
+use Rattle.tokens.specs.declared.Kind.{Kind}
+use Rattle.tokens.specs.declared.Kind.the-variants.{Pdt, PdtB, Pmt, Done}
+use Rattle.tokens.specs.declared.Message.{Message}
+
+abbrev pub message : Kind → ℕ → ℕ → Message
+message kind from to = record { kind = kind; from = from; to = to }
+
+-- ---- what the machine keeps
+
+-- the step from half a to half b is marked
+abbrev pub Marks : Type 0
+Marks = ℕ → ℕ → Bool
+
+-- half h has been entered in this round
+abbrev pub Entered : Type 0
+Entered = ℕ → Bool
+
+-- the number of rounds started, of paths found, the marks, and the halves entered in the round
+pub record Notes : Type 0 where
+  pub round : ℕ
+  pub found : ℕ
+  pub marks : Marks
+  pub entered : Entered
+
+-- the halves that have sent a PDT and had no reply, the last one first, each with the first place of its order that it has not tried
+pub data Waiting : Type 0 where
+  nobody : Waiting
+  waits : ℕ → ℕ → Waiting → Waiting
+
+-- what happens next
+pub data State : Type 0 where
+  -- the half on top of those that wait searches
+  searching : Notes → Waiting → State
+  -- this half was entered before, and owes PDT_B to the one on top
+  refusing : ℕ → Notes → Waiting → State
+  -- this half owes PMT to the one on top
+  granting : ℕ → Notes → Waiting → State
+  -- S has had its PMT: the round is over
+  won : Notes → State
+  -- the DONE that S sent to this radio has come to this half
+  carrying : ℕ → ℕ → Notes → State
+
+-- one inner step: a message, and the state once it is delivered; or the end of the run
+pub data Next : Type 0 where
+  sends : Message → State → Next
+  over : Next
+
+-- ---- rule 2
+
+-- at the start of a round S's out half counts as entered and no other half does
+abbrev pub onlyS : Site → Entered
+onlyS site h = eqb h (outHalf (site .S))
+
+-- the next round begins: S's out half searches
+abbrev pub begun : Site → Notes → Notes
+begun site notes = record { round = suc (notes .round); found = notes .found; marks = notes .marks; entered = onlyS site }
+
+abbrev pub justS : Site → Waiting
+justS site = waits (outHalf (site .S)) 0 nobody
+
+-- ---- rule 3
+
+-- half x can walk to half y now: forwards over an unmarked step, or backwards over a marked one
+unfoldable pub mayWalk : Site → Marks → ℕ → ℕ → Bool
+mayWalk site marks x y = (step site x y && not (marks x y)) || (step site y x && marks y x)
+
+-- the half that stands at a place of half h's order: other radios by rising number, then its own other half last
+unfoldable pub candidate : Site → ℕ → ℕ → ℕ
+candidate site h place =
+    elim (ltb place (site .n)) [ true ↦ elim (isOut h) [ true ↦ inHalf place | false ↦ outHalf place ] | false ↦ elim (isOut h) [ true ↦ h - 1 | false ↦ h + 1 ] ]
+
+-- half h can walk now to what stands at that place. Its own radio's number is no other radio's, and is passed over
+unfoldable pub canTry : Site → Marks → ℕ → ℕ → Bool
+canTry site marks h place = not (eqb place (radioOf h)) && mayWalk site marks h (candidate site h place)
+
+-- the first place from this one on that half h can walk to now; n + 1 where there is none
+unfoldable pub nextPlace : Site → Marks → ℕ → ℕ → ℕ
+nextPlace site marks h place = firstFrom (canTry site marks h) place (site .n + 1)
+
+-- ---- rules 4 and 5
+
+abbrev pub entering : ℕ → Notes → Notes
+entering h notes = record { round = notes .round; found = notes .found; marks = notes .marks; entered = λ x. eqb x h || notes .entered x }
+
+-- half h gets a PDT from the half on top. The two tests: it is T's in half; it was entered before
+unfoldable pub gets : Bool → Bool → ℕ → Notes → Waiting → State
+gets true before h notes waiting = granting h (entering h notes) waiting
+gets false true h notes waiting = refusing h notes waiting
+gets false false h notes waiting = searching (entering h notes) (waits h 0 waiting)
+
+-- ---- rule 7
+
+-- the first radio from v on with a marked step from half h to it; n where there is none
+unfoldable pub nextMarked : Site → Marks → ℕ → ℕ → ℕ
+nextMarked site marks h v = firstFrom (λ w. marks h (inHalf w)) v (site .n)
+
+-- half h passes DONE over its marked link step to radio w, if there is one. S sent it to radio v
+unfoldable pub passOn : Site → ℕ → ℕ → ℕ → Notes → Next
+passOn site h v w notes = elim (ltb w (site .n)) [ true ↦ sends (message Done h (inHalf w)) (carrying v (inHalf w) notes) | false ↦ over ]
+
+-- S sends DONE to the first radio from v on with a marked step from S; where there is none, all is done
+unfoldable pub release : Site → ℕ → Notes → Next
+release site v notes = let w = nextMarked site (notes .marks) (outHalf (site .S)) v in passOn site (outHalf (site .S)) w w notes
+
+-- DONE is at half h. The two tests: it is T's in half; it is an out half. An in half passes it to its own out half
+unfoldable pub carry : Bool → Bool → Site → ℕ → ℕ → Notes → Next
+carry true out site v h notes = release site (suc v) notes
+carry false true site v h notes = passOn site h v (nextMarked site (notes .marks) h 0) notes
+carry false false site v h notes = sends (message Done h (h + 1)) (carrying v (h + 1) notes)
+
+-- ---- rules 3 and 6: a half that searches
+
+-- half h has found the place of its next PDT, or none: then it replies PDT_B, and S fails the round
+unfoldable pub tries : Bool → Site → ℕ → ℕ → Notes → Waiting → Next
+tries true site h place notes rest =
+    let y = candidate site h place in
+    sends (message Pdt h y) (gets (eqb y (inHalf (site .T))) (notes .entered y) y notes (waits h (suc place) rest))
+tries false site h place notes nobody = release site 0 notes
+tries false site h place notes (waits asker i rest) = sends (message PdtB h asker) (searching notes (waits asker i rest))
+
+unfoldable pub search : Site → Notes → Waiting → Next
+search site notes nobody = over
+search site notes (waits h i rest) = let place = nextPlace site (notes .marks) h i in tries (ltb place (site .n + 1)) site h place notes rest
+
+-- ---- rule 6: PMT
+
+-- the mark of the step between halves h and y, whichever way it leads, is reversed
+unfoldable pub reversed : Site → ℕ → ℕ → Marks → Marks
+reversed site h y marks a b = elim (step site a b && ((eqb a h && eqb b y) || (eqb a y && eqb b h))) [ true ↦ not (marks a b) | false ↦ marks a b ]
+
+abbrev pub turning : Site → ℕ → ℕ → Notes → Notes
+turning site h y notes = record { round = notes .round; found = notes .found; marks = reversed site h y (notes .marks); entered = notes .entered }
+
+-- one path more
+abbrev pub finding : Notes → Notes
+finding notes = record { round = notes .round; found = suc (notes .found); marks = notes .marks; entered = notes .entered }
+
+-- half y replies PMT to the half on top, which reverses their step's mark and replies PMT in its turn, or is S, whose round is won
+unfoldable pub grant : Site → ℕ → Notes → Waiting → Next
+grant site y notes nobody = over
+grant site y notes (waits h i nobody) = sends (message Pmt y h) (won (finding (turning site h y notes)))
+grant site y notes (waits h i (waits asker j rest)) = sends (message Pmt y h) (granting h (turning site h y notes) (waits asker j rest))
+
+-- half y replies PDT_B to the half on top, which goes on searching
+unfoldable pub refuse : ℕ → Notes → Waiting → Next
+refuse y notes nobody = over
+refuse y notes (waits h i rest) = sends (message PdtB y h) (searching notes (waits h i rest))
+
+-- ---- rule 1
+
+-- a round is won: another starts while fewer than k paths are found, else S sends DONE
+unfoldable pub goOn : Bool → Site → Notes → Next
+goOn true site notes = search site (begun site notes) (justS site)
+goOn false site notes = release site 0 notes
+
+-- ---- one inner step
+
+unfoldable pub innerStep : Site → ℕ → State → Next
+innerStep site k (searching notes waiting) = search site notes waiting
+innerStep site k (refusing y notes waiting) = refuse y notes waiting
+innerStep site k (granting y notes waiting) = grant site y notes waiting
+innerStep site k (won notes) = goOn (ltb (notes .found) k) site notes
+innerStep site k (carrying v h notes) = carry (eqb h (inHalf (site .T))) (isOut h) site v h notes
+
+-- at the start all steps are unmarked, and round 1 begins
+abbrev pub start : Site → State
+start site = searching (begun site (record { round = 0; found = 0; marks = λ a b. false; entered = λ h. false })) (justS site)
