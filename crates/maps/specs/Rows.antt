@@ -8,7 +8,7 @@ use lib.ListN.{length, set, replicate}
 use Rattle.basics.specs.Counting.{sum, firstOf}
 use Rattle.site.specs.Map.{Site, linked, links, exists, passes, insideStep, linkStep, step, A}
 use Rattle.site.specs.Refusals.{Call, bad, badAt, badCell, firstBad, finding, verdict, pathsNeed}
-use Rattle.tokens.specs.Rules.{mayWalk, candidate, canTry, nextPlace, gets, nextMarked, passOn, release, carry, tries, search, reversed, grant, refuse, goOn, innerStep}
+use Rattle.tokens.specs.Rules.{mayWalk, candidate, canTry, nextPlace, gets, nextMarked, passOn, release, carry, tries, search, reversed, grant, decline, goOn, innerStep}
 use Rattle.tokens.specs.Run.{runFrom, walked, cutItem, itemOf}
 use Rattle.outcome.specs.Leaves.{runOf, pathsFound, cutFound, pathBytes, logBytes, zerosAfter, outcome, logLeft, pathsLeft, cutLeft}
 
@@ -93,5 +93,5 @@ rows =
     ∷ []
 
 pub eight : map (λ (r : Row). toldOf (r .made)) rows ≡ map (λ (r : Row). r .told) rows
-unfolding sum firstOf linked links exists passes insideStep linkStep step A bad badAt badCell firstBad finding verdict mayWalk candidate canTry nextPlace gets nextMarked passOn release carry tries search reversed grant refuse goOn innerStep runFrom walked cutItem itemOf runOf pathsFound cutFound pathBytes logBytes outcome logLeft pathsLeft cutLeft
+unfolding sum firstOf linked links exists passes insideStep linkStep step A bad badAt badCell firstBad finding verdict mayWalk candidate canTry nextPlace gets nextMarked passOn release carry tries search reversed grant decline goOn innerStep runFrom walked cutItem itemOf runOf pathsFound cutFound pathBytes logBytes outcome logLeft pathsLeft cutLeft
 eight = refl

@@ -39,7 +39,7 @@ pub data State : Type 0 where
   -- the half on top of those that wait searches
   searching : Notes → Waiting → State
   -- this half was entered before, and owes PDT_B to the one on top
-  refusing : ℕ → Notes → Waiting → State
+  declining : ℕ → Notes → Waiting → State
   -- this half owes PMT to the one on top
   granting : ℕ → Notes → Waiting → State
   -- S has had its PMT: the round is over
@@ -92,7 +92,7 @@ entering h notes = record { round = notes .round; found = notes .found; marks = 
 -- half h gets a PDT from the half on top. The two tests: it is T's in half; it was entered before
 unfoldable pub gets : Bool → Bool → ℕ → Notes → Waiting → State
 gets true before h notes waiting = granting h (entering h notes) waiting
-gets false true h notes waiting = refusing h notes waiting
+gets false true h notes waiting = declining h notes waiting
 gets false false h notes waiting = searching (entering h notes) (waits h 0 waiting)
 
 -- ---- rule 7
@@ -139,19 +139,19 @@ abbrev pub turning : Site → ℕ → ℕ → Notes → Notes
 turning site h y notes = record { round = notes .round; found = notes .found; marks = reversed site h y (notes .marks); entered = notes .entered }
 
 -- one path more
-abbrev pub finding : Notes → Notes
-finding notes = record { round = notes .round; found = suc (notes .found); marks = notes .marks; entered = notes .entered }
+abbrev pub onePathMore : Notes → Notes
+onePathMore notes = record { round = notes .round; found = suc (notes .found); marks = notes .marks; entered = notes .entered }
 
 -- half y replies PMT to the half on top, which reverses their step's mark and replies PMT in its turn, or is S, whose round is won
 unfoldable pub grant : Site → ℕ → Notes → Waiting → Next
 grant site y notes nobody = over
-grant site y notes (waits h i nobody) = sends (message Pmt y h) (won (finding (turning site h y notes)))
+grant site y notes (waits h i nobody) = sends (message Pmt y h) (won (onePathMore (turning site h y notes)))
 grant site y notes (waits h i (waits asker j rest)) = sends (message Pmt y h) (granting h (turning site h y notes) (waits asker j rest))
 
 -- half y replies PDT_B to the half on top, which goes on searching
-unfoldable pub refuse : ℕ → Notes → Waiting → Next
-refuse y notes nobody = over
-refuse y notes (waits h i rest) = sends (message PdtB y h) (searching notes (waits h i rest))
+unfoldable pub decline : ℕ → Notes → Waiting → Next
+decline y notes nobody = over
+decline y notes (waits h i rest) = sends (message PdtB y h) (searching notes (waits h i rest))
 
 -- ---- rule 1
 
@@ -164,7 +164,7 @@ goOn false site notes = release site 0 notes
 
 unfoldable pub innerStep : Site → ℕ → State → Next
 innerStep site k (searching notes waiting) = search site notes waiting
-innerStep site k (refusing y notes waiting) = refuse y notes waiting
+innerStep site k (declining y notes waiting) = decline y notes waiting
 innerStep site k (granting y notes waiting) = grant site y notes waiting
 innerStep site k (won notes) = goOn (ltb (notes .found) k) site notes
 innerStep site k (carrying v h notes) = carry (eqb h (inHalf (site .T))) (isOut h) site v h notes

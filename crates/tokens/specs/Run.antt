@@ -8,11 +8,11 @@ use Rattle.site.specs.Map.{Site, inHalf, outHalf, radioOf, isOut}
 use Rattle.tokens.specs.declared.Kind.{Kind}
 use Rattle.tokens.specs.declared.Kind.the-variants.{Pdt, PdtB, Pmt, Done}
 use Rattle.tokens.specs.declared.Message.{Message}
-use Rattle.tokens.specs.Rules.{Entered, Notes, State, searching, refusing, granting, won, carrying, sends, over, innerStep}
+use Rattle.tokens.specs.Rules.{Entered, Notes, State, searching, declining, granting, won, carrying, sends, over, innerStep}
 
 abbrev pub notesOf : State → Notes
 notesOf (searching notes waiting) = notes
-notesOf (refusing h notes waiting) = notes
+notesOf (declining h notes waiting) = notes
 notesOf (granting h notes waiting) = notes
 notesOf (won notes) = notes
 notesOf (carrying v h notes) = notes
