@@ -32,7 +32,9 @@ fn read_call(asked: &str) -> Result<Call, String> {
     }
     let version = read_number(&mut words, "v")?;
     if version != KNOWN_VERSION {
-        return Err(format!("v={version} is not known here, only v={KNOWN_VERSION}"));
+        return Err(format!(
+            "v={version} is not known here, only v={KNOWN_VERSION}"
+        ));
     }
     let call = Call {
         radios: read_number(&mut words, "n")?,
@@ -52,8 +54,13 @@ fn read_call(asked: &str) -> Result<Call, String> {
     }
 }
 
-fn read_field<'line>(words: &mut std::str::Split<'line, char>, name: &str) -> Result<&'line str, String> {
-    let word = words.next().ok_or_else(|| format!("the field {name} is missing"))?;
+fn read_field<'line>(
+    words: &mut std::str::Split<'line, char>,
+    name: &str,
+) -> Result<&'line str, String> {
+    let word = words
+        .next()
+        .ok_or_else(|| format!("the field {name} is missing"))?;
     match word.split_once('=') {
         Some((found, value)) if found == name => Ok(value),
         _ => Err(format!("expected the field {name}, found {word:?}")),
@@ -62,7 +69,9 @@ fn read_field<'line>(words: &mut std::str::Split<'line, char>, name: &str) -> Re
 
 fn read_number(words: &mut std::str::Split<'_, char>, name: &str) -> Result<usize, String> {
     let value = read_field(words, name)?;
-    value.parse().map_err(|error| format!("field {name}: {value:?} is not a number here ({error})"))
+    value
+        .parse()
+        .map_err(|error| format!("field {name}: {value:?} is not a number here ({error})"))
 }
 
 /// An empty table is an empty field or "-".
@@ -77,21 +86,36 @@ fn read_table(digits: &str) -> Result<Vec<u8>, String> {
 }
 
 fn read_cell(digits: &[u8]) -> Result<u8, String> {
-    let values: Option<Vec<u32>> = digits.iter().map(|&digit| char::from(digit).to_digit(16)).collect();
+    let values: Option<Vec<u32>> = digits
+        .iter()
+        .map(|&digit| char::from(digit).to_digit(16))
+        .collect();
     match values.as_deref() {
         Some([high, low]) => Ok((16 * high + low) as u8),
-        _ => Err(format!("field t: {:?} are not two hexadecimal digits", String::from_utf8_lossy(digits))),
+        _ => Err(format!(
+            "field t: {:?} are not two hexadecimal digits",
+            String::from_utf8_lossy(digits)
+        )),
     }
 }
 
 /// A refused run sets all three buffers to 0 throughout and all counts to 0.
 fn write_refused(refusal: Refusal, lengths: Lengths) -> String {
     let buffers = write_buffers(lengths, &[], &[], &[]);
-    format!("refusal={} place={} p=0 rounds=0 messages=0 {buffers}", refusal.number(), refusal.place())
+    format!(
+        "refusal={} place={} p=0 rounds=0 messages=0 {buffers}",
+        refusal.number(),
+        refusal.place()
+    )
 }
 
 fn write_accepted(outcome: &Outcome, lengths: Lengths) -> String {
-    let buffers = write_buffers(lengths, &outcome.log_bytes(), &outcome.path_bytes(), &outcome.cut_bytes());
+    let buffers = write_buffers(
+        lengths,
+        &outcome.log_bytes(),
+        &outcome.path_bytes(),
+        &outcome.cut_bytes(),
+    );
     format!(
         "refusal=0 place=0 p={} rounds={} messages={} {buffers}",
         outcome.paths.len(),
@@ -114,9 +138,15 @@ fn write_buffers(lengths: Lengths, log: &[u8], paths: &[u8], cut: &[u8]) -> Stri
 
 /// All bytes past the used ones are 0, so the zeros at the end need not be written.
 fn write_bytes(used: &[u8]) -> String {
-    let written = used.iter().rposition(|&byte| byte != 0).map_or(0, |last| last + 1);
+    let written = used
+        .iter()
+        .rposition(|&byte| byte != 0)
+        .map_or(0, |last| last + 1);
     if written == 0 {
         return "-".to_string();
     }
-    used[..written].iter().map(|byte| format!("{byte:02x}")).collect()
+    used[..written]
+        .iter()
+        .map(|byte| format!("{byte:02x}"))
+        .collect()
 }

@@ -6,7 +6,11 @@ use crate::map::{in_half, is_in_half, out_half, Question};
 use crate::outcome::{CutItem, Outcome};
 
 /// The numbers, the paths, the cut and the log of a run.
-pub fn check_outcome(question: &Question, outcome: &Outcome, rounds_that_found: usize) -> Result<(), String> {
+pub fn check_outcome(
+    question: &Question,
+    outcome: &Outcome,
+    rounds_that_found: usize,
+) -> Result<(), String> {
     check_numbers(question, outcome, rounds_that_found)?;
     check_paths(question, &outcome.paths)?;
     check_cut(question, outcome)?;
@@ -20,14 +24,33 @@ fn expect_equal(what: &str, expected: usize, got: usize) -> Result<(), String> {
     Err(format!("{what}: expected {expected}, got {got}"))
 }
 
-fn check_numbers(question: &Question, outcome: &Outcome, rounds_that_found: usize) -> Result<(), String> {
+fn check_numbers(
+    question: &Question,
+    outcome: &Outcome,
+    rounds_that_found: usize,
+) -> Result<(), String> {
     let largest = largest_checked(question)?;
-    expect_equal("paths, min(k, M)", question.wanted.min(largest), outcome.paths.len())?;
-    expect_equal("rounds, min(k, M+1)", question.wanted.min(largest + 1), outcome.rounds)?;
-    expect_equal("paths against rounds that found one", rounds_that_found, outcome.paths.len())?;
+    expect_equal(
+        "paths, min(k, M)",
+        question.wanted.min(largest),
+        outcome.paths.len(),
+    )?;
+    expect_equal(
+        "rounds, min(k, M+1)",
+        question.wanted.min(largest + 1),
+        outcome.rounds,
+    )?;
+    expect_equal(
+        "paths against rounds that found one",
+        rounds_that_found,
+        outcome.paths.len(),
+    )?;
     let bound = (2 * outcome.rounds + 1) * question.number_of_steps();
     if outcome.messages() > bound {
-        return Err(format!("{} messages, more than (2r+1)·A = {bound}", outcome.messages()));
+        return Err(format!(
+            "{} messages, more than (2r+1)·A = {bound}",
+            outcome.messages()
+        ));
     }
     Ok(())
 }
@@ -36,7 +59,11 @@ fn check_numbers(question: &Question, outcome: &Outcome, rounds_that_found: usiz
 fn largest_checked(question: &Question) -> Result<usize, String> {
     let largest = largest_by_flow(question);
     if question.map.radios <= FEW_RADIOS {
-        expect_equal("M by flow against M by cuts", largest_by_cuts(question), largest)?;
+        expect_equal(
+            "M by flow against M by cuts",
+            largest_by_cuts(question),
+            largest,
+        )?;
     }
     Ok(largest)
 }
@@ -46,7 +73,8 @@ fn check_paths(question: &Question, paths: &[Vec<usize>]) -> Result<(), String> 
     let mut used = vec![false; question.map.radios];
     let mut direct_paths = 0;
     for path in paths {
-        let right_ends = path.first() == Some(&question.source) && path.last() == Some(&question.destination);
+        let right_ends =
+            path.first() == Some(&question.source) && path.last() == Some(&question.destination);
         if !right_ends || !is_path(&question.map, path) {
             return Err(format!("{path:?} is no path from S to T"));
         }
@@ -69,12 +97,19 @@ fn check_cut(question: &Question, outcome: &Outcome) -> Result<(), String> {
     if outcome.paths.len() == question.wanted {
         return expect_equal("cut items of a full run", 0, outcome.cut.len());
     }
-    expect_equal("cut items of a short run", outcome.paths.len(), outcome.cut.len())?;
+    expect_equal(
+        "cut items of a short run",
+        outcome.paths.len(),
+        outcome.cut.len(),
+    )?;
     let mut removed = vec![false; question.map.radios];
     for item in &outcome.cut {
         if let CutItem::Radio(radio) = *item {
             if !question.is_inner(radio) || removed[radio] {
-                return Err(format!("the cut {:?} names S or T or a radio twice", outcome.cut));
+                return Err(format!(
+                    "the cut {:?} names S or T or a radio twice",
+                    outcome.cut
+                ));
             }
             removed[radio] = true;
         }
@@ -83,7 +118,10 @@ fn check_cut(question: &Question, outcome: &Outcome) -> Result<(), String> {
     if parts_ends(question, &removed, without_direct_link) {
         return Ok(());
     }
-    Err(format!("the cut {:?} leaves a path from S to T", outcome.cut))
+    Err(format!(
+        "the cut {:?} leaves a path from S to T",
+        outcome.cut
+    ))
 }
 
 /// The strong form of the bound: in one round no step carries a PDT twice, in either direction.
@@ -97,7 +135,10 @@ fn check_no_step_carries_two_pdts(log: &[Message], rounds: usize) -> Result<(), 
             .collect();
         steps.sort_unstable();
         if let Some(pair) = steps.windows(2).find(|pair| pair[0] == pair[1]) {
-            return Err(format!("round {round}: two PDTs over the step between halves {:?}", pair[0]));
+            return Err(format!(
+                "round {round}: two PDTs over the step between halves {:?}",
+                pair[0]
+            ));
         }
     }
     Ok(())
@@ -106,53 +147,99 @@ fn check_no_step_carries_two_pdts(log: &[Message], rounds: usize) -> Result<(), 
 /// Marks after the run: both ends of a step agree, A is right, and marks form paths and rings only.
 /// Gives the number of marked steps that lie in rings.
 pub fn check_marks(question: &Question, search: &Search) -> Result<usize, String> {
-    let halves: Vec<(usize, &Half)> =
-        search.halves.iter().enumerate().filter_map(|(number, half)| Some((number, half.as_ref()?))).collect();
-    let leaving: usize = halves.iter().map(|(_, half)| count_steps(half, true, false)).sum();
-    expect_equal("A by its formula against the steps", question.number_of_steps(), leaving)?;
+    let halves: Vec<(usize, &Half)> = search
+        .halves
+        .iter()
+        .enumerate()
+        .filter_map(|(number, half)| Some((number, half.as_ref()?)))
+        .collect();
+    let leaving: usize = halves
+        .iter()
+        .map(|(_, half)| count_steps(half, true, false))
+        .sum();
+    expect_equal(
+        "A by its formula against the steps",
+        question.number_of_steps(),
+        leaving,
+    )?;
     for (number, half) in &halves {
         check_both_ends_agree(search, *number, half)?;
         check_one_way_out_of_in_half(question, *number, half)?;
     }
     check_marks_go_through(question, search)?;
-    let marked: usize = halves.iter().map(|(_, half)| count_steps(half, true, true)).sum();
-    let walked_by_done = search.log.iter().filter(|message| message.kind == Kind::Done).count();
-    marked.checked_sub(walked_by_done).ok_or_else(|| "DONE walked more steps than are marked".to_string())
+    let marked: usize = halves
+        .iter()
+        .map(|(_, half)| count_steps(half, true, true))
+        .sum();
+    let walked_by_done = search
+        .log
+        .iter()
+        .filter(|message| message.kind == Kind::Done)
+        .count();
+    marked
+        .checked_sub(walked_by_done)
+        .ok_or_else(|| "DONE walked more steps than are marked".to_string())
 }
 
 fn count_steps(half: &Half, leaves_here: bool, only_marked: bool) -> usize {
-    half.steps.iter().filter(|step| step.leaves_here == leaves_here && (step.marked || !only_marked)).count()
+    half.steps
+        .iter()
+        .filter(|step| step.leaves_here == leaves_here && (step.marked || !only_marked))
+        .count()
 }
 
 fn check_both_ends_agree(search: &Search, number: usize, half: &Half) -> Result<(), String> {
     for step in &half.steps {
         let other = search.halves[step.other].as_ref();
         let note = other.and_then(|other| other.steps.iter().find(|back| back.other == number));
-        let agree = note.is_some_and(|back| back.marked == step.marked && back.leaves_here != step.leaves_here);
+        let agree = note
+            .is_some_and(|back| back.marked == step.marked && back.leaves_here != step.leaves_here);
         if !agree {
-            return Err(format!("halves {number} and {} differ about their step", step.other));
+            return Err(format!(
+                "halves {number} and {} differ about their step",
+                step.other
+            ));
         }
     }
     Ok(())
 }
 
 /// In a finished marking an inner in half has exactly one step to walk.
-fn check_one_way_out_of_in_half(question: &Question, number: usize, half: &Half) -> Result<(), String> {
+fn check_one_way_out_of_in_half(
+    question: &Question,
+    number: usize,
+    half: &Half,
+) -> Result<(), String> {
     if !is_in_half(number) || number == in_half(question.destination) {
         return Ok(());
     }
-    expect_equal("steps an in half can walk", 1, half.steps_it_can_walk().len())
+    expect_equal(
+        "steps an in half can walk",
+        1,
+        half.steps_it_can_walk().len(),
+    )
 }
 
 /// At each inner radio as many marked steps arrive as leave: none, or one through its own step.
 fn check_marks_go_through(question: &Question, search: &Search) -> Result<(), String> {
     for radio in (0..question.map.radios).filter(|&radio| question.is_inner(radio)) {
-        let (Some(front), Some(back)) = (&search.halves[in_half(radio)], &search.halves[out_half(radio)]) else {
+        let (Some(front), Some(back)) = (
+            &search.halves[in_half(radio)],
+            &search.halves[out_half(radio)],
+        ) else {
             return Err(format!("radio {radio} lacks a half"));
         };
         let through = count_steps(front, true, true);
-        expect_equal("marked steps into a radio", through, count_steps(front, false, true))?;
-        expect_equal("marked steps out of a radio", through, count_steps(back, true, true))?;
+        expect_equal(
+            "marked steps into a radio",
+            through,
+            count_steps(front, false, true),
+        )?;
+        expect_equal(
+            "marked steps out of a radio",
+            through,
+            count_steps(back, true, true),
+        )?;
     }
     Ok(())
 }

@@ -87,11 +87,20 @@ impl Half {
     }
 
     pub fn steps_it_can_walk(&self) -> VecDeque<usize> {
-        self.steps.iter().filter(|step| step.can_be_walked_from_here()).map(|step| step.other).collect()
+        self.steps
+            .iter()
+            .filter(|step| step.can_be_walked_from_here())
+            .map(|step| step.other)
+            .collect()
     }
 
     fn write(&self, kind: Kind, round: usize, to: usize) -> Wish {
-        Wish::Post(Message { kind, round, from: self.number, to })
+        Wish::Post(Message {
+            kind,
+            round,
+            from: self.number,
+            to,
+        })
     }
 
     /// Rules 2 and 4: from now on the half is entered in this round, and searches.
@@ -129,7 +138,10 @@ impl Half {
     }
 
     fn read_inbox(&mut self) -> Result<Wish, String> {
-        let message = self.inbox.pop_front().ok_or("a half was called with an empty inbox")?;
+        let message = self
+            .inbox
+            .pop_front()
+            .ok_or("a half was called with an empty inbox")?;
         match message.kind {
             Kind::Pdt => self.read_pdt(message),
             Kind::PdtB => self.read_pdt_b(message),
@@ -171,7 +183,10 @@ impl Half {
         if expected == Some(sender) {
             return Ok(());
         }
-        Err(format!("half {} waited for {expected:?} and got a reply from half {sender}", self.number))
+        Err(format!(
+            "half {} waited for {expected:?} and got a reply from half {sender}",
+            self.number
+        ))
     }
 
     /// Rule 7: an in half passes DONE to its own out half, an out half over its one marked link step.
@@ -185,7 +200,10 @@ impl Half {
         let marked = self.marked_link_steps();
         match marked.as_slice() {
             [only] => Ok(self.write(Kind::Done, message.round, *only)),
-            _ => Err(format!("half {} got DONE with marked link steps to {marked:?}", self.number)),
+            _ => Err(format!(
+                "half {} got DONE with marked link steps to {marked:?}",
+                self.number
+            )),
         }
     }
 
@@ -193,7 +211,9 @@ impl Half {
     fn marked_link_steps(&self) -> Vec<usize> {
         self.steps
             .iter()
-            .filter(|step| step.leaves_here && step.marked && radio_of(step.other) != radio_of(self.number))
+            .filter(|step| {
+                step.leaves_here && step.marked && radio_of(step.other) != radio_of(self.number)
+            })
             .map(|step| step.other)
             .collect()
     }
@@ -216,7 +236,9 @@ impl PostOffice {
         let mut wish = first;
         while let Wish::Post(message) = wish {
             if self.log.len() >= FAR_TOO_MANY_MESSAGES {
-                return Err(format!("still sending after {FAR_TOO_MANY_MESSAGES} messages"));
+                return Err(format!(
+                    "still sending after {FAR_TOO_MANY_MESSAGES} messages"
+                ));
             }
             self.log.push(message);
             let receiver = self.half(message.to)?;
@@ -242,7 +264,12 @@ impl PostOffice {
     fn play_done(&mut self, source_half: usize, round: usize) -> Result<(), String> {
         let source = self.half(source_half)?;
         for first in source.marked_link_steps() {
-            let done = Message { kind: Kind::Done, round, from: source_half, to: first };
+            let done = Message {
+                kind: Kind::Done,
+                round,
+                from: source_half,
+                to: first,
+            };
             match self.carry(Wish::Post(done))? {
                 Wish::DoneArrived => {}
                 _ => return Err(format!("the DONE sent to half {first} never came to T")),
@@ -275,7 +302,10 @@ impl Search {
 /// Rule 1 and rule 7: all rounds, then the DONE messages.
 pub fn search(question: &Question) -> Result<Search, String> {
     let source_half = out_half(question.source);
-    let mut office = PostOffice { halves: build_halves(question), log: Vec::new() };
+    let mut office = PostOffice {
+        halves: build_halves(question),
+        log: Vec::new(),
+    };
     let mut rounds = 0;
     let mut rounds_that_found = 0;
     while rounds_that_found < question.wanted && rounds_that_found == rounds {
@@ -283,7 +313,12 @@ pub fn search(question: &Question) -> Result<Search, String> {
         rounds_that_found += usize::from(office.play_round(source_half, rounds)?);
     }
     office.play_done(source_half, rounds)?;
-    Ok(Search { rounds, rounds_that_found, log: office.log, halves: office.halves })
+    Ok(Search {
+        rounds,
+        rounds_that_found,
+        log: office.log,
+        halves: office.halves,
+    })
 }
 
 /// S has only its out half and T only its in half.
@@ -311,11 +346,19 @@ fn build_in_half(question: &Question, radio: usize) -> Half {
     let mut steps = Vec::new();
     for neighbour in question.map.neighbours(radio) {
         if neighbour != question.destination {
-            steps.push(StepNote { other: out_half(neighbour), leaves_here: false, marked: false });
+            steps.push(StepNote {
+                other: out_half(neighbour),
+                leaves_here: false,
+                marked: false,
+            });
         }
     }
     if question.is_inner(radio) {
-        steps.push(StepNote { other: out_half(radio), leaves_here: true, marked: false });
+        steps.push(StepNote {
+            other: out_half(radio),
+            leaves_here: true,
+            marked: false,
+        });
     }
     Half::new(in_half(radio), role_of(question, radio), steps)
 }
@@ -325,11 +368,19 @@ fn build_out_half(question: &Question, radio: usize) -> Half {
     let mut steps = Vec::new();
     for neighbour in question.map.neighbours(radio) {
         if neighbour != question.source {
-            steps.push(StepNote { other: in_half(neighbour), leaves_here: true, marked: false });
+            steps.push(StepNote {
+                other: in_half(neighbour),
+                leaves_here: true,
+                marked: false,
+            });
         }
     }
     if question.is_inner(radio) {
-        steps.push(StepNote { other: in_half(radio), leaves_here: false, marked: false });
+        steps.push(StepNote {
+            other: in_half(radio),
+            leaves_here: false,
+            marked: false,
+        });
     }
     Half::new(out_half(radio), role_of(question, radio), steps)
 }

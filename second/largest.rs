@@ -20,7 +20,10 @@ impl Room {
     fn of(question: &Question) -> Room {
         let radios = question.map.radios;
         let nodes = 2 * radios;
-        let mut room = Room { nodes, left: vec![0; nodes * nodes] };
+        let mut room = Room {
+            nodes,
+            left: vec![0; nodes * nodes],
+        };
         for radio in 0..radios {
             if question.is_inner(radio) {
                 room.left[radio * nodes + radios + radio] = 1;
@@ -79,7 +82,9 @@ pub fn largest_by_flow(question: &Question) -> usize {
 
 /// M as the size of a smallest cut: the direct link, if there is one, and the fewest inner radios.
 pub fn largest_by_cuts(question: &Question) -> usize {
-    let inner: Vec<usize> = (0..question.map.radios).filter(|&radio| question.is_inner(radio)).collect();
+    let inner: Vec<usize> = (0..question.map.radios)
+        .filter(|&radio| question.is_inner(radio))
+        .collect();
     let direct = usize::from(question.ends_are_linked());
     for size in 0..inner.len() {
         for choice in 0..1usize << inner.len() {
@@ -120,6 +125,9 @@ pub fn parts_ends(question: &Question, removed: &[bool], without_direct_link: bo
 /// Whether every two neighbours in the list are linked and no radio stands in it twice.
 pub fn is_path(map: &Map, radios: &[usize]) -> bool {
     let linked = radios.windows(2).all(|pair| map.linked(pair[0], pair[1]));
-    let different = radios.iter().enumerate().all(|(place, radio)| !radios[..place].contains(radio));
+    let different = radios
+        .iter()
+        .enumerate()
+        .all(|(place, radio)| !radios[..place].contains(radio));
     linked && different
 }

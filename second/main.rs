@@ -57,7 +57,9 @@ fn answer(words: &[&str]) -> Option<Result<(), String>> {
         ["every", radios] => {
             let radios = radios.parse().ok()?;
             let known = map::FEWEST_RADIOS..=soak::MOST_RADIOS_FOR_EVERY;
-            known.contains(&radios).then(|| soak::every(radios).and_then(|line| print(&line)))
+            known
+                .contains(&radios)
+                .then(|| soak::every(radios).and_then(|line| print(&line)))
         }
         _ => None,
     }
@@ -67,7 +69,11 @@ fn answer(words: &[&str]) -> Option<Result<(), String>> {
 fn answer_sheet() -> Result<(), String> {
     let mut text = Vec::new();
     let limit = sheet::MOST_BYTES as u64 + 1;
-    io::stdin().lock().take(limit).read_to_end(&mut text).map_err(|error| format!("standard input: {error}"))?;
+    io::stdin()
+        .lock()
+        .take(limit)
+        .read_to_end(&mut text)
+        .map_err(|error| format!("standard input: {error}"))?;
     print(&sheet::sheet_of_text(&text)?)
 }
 
@@ -75,12 +81,15 @@ fn answer_calls() -> Result<(), String> {
     for (lines_before, line) in io::stdin().lock().lines().enumerate() {
         let number = lines_before + 1;
         let line = line.map_err(|error| format!("line {number}: {error}"))?;
-        let answered = calls::answer_line(&line).map_err(|fault| format!("line {number}: {fault}"))?;
+        let answered =
+            calls::answer_line(&line).map_err(|fault| format!("line {number}: {fault}"))?;
         print(&(answered + "\n"))?;
     }
     Ok(())
 }
 
 fn print(text: &str) -> Result<(), String> {
-    io::stdout().write_all(text.as_bytes()).map_err(|error| format!("standard output: {error}"))
+    io::stdout()
+        .write_all(text.as_bytes())
+        .map_err(|error| format!("standard output: {error}"))
 }

@@ -33,7 +33,10 @@ pub struct Map {
 
 impl Map {
     pub fn without_links(radios: usize) -> Map {
-        Map { radios, cells: vec![false; radios * radios] }
+        Map {
+            radios,
+            cells: vec![false; radios * radios],
+        }
     }
 
     pub fn link(&mut self, one: usize, other: usize) {
@@ -47,7 +50,9 @@ impl Map {
 
     /// The radios linked to this one, by rising number.
     pub fn neighbours(&self, radio: usize) -> Vec<usize> {
-        (0..self.radios).filter(|&other| self.linked(radio, other)).collect()
+        (0..self.radios)
+            .filter(|&other| self.linked(radio, other))
+            .collect()
     }
 
     pub fn degree(&self, radio: usize) -> usize {
@@ -118,6 +123,9 @@ pub fn write_links(links: &[(usize, usize)]) -> String {
     if links.is_empty() {
         return "none".to_string();
     }
-    let pairs: Vec<String> = links.iter().map(|(one, other)| format!("{one}-{other}")).collect();
+    let pairs: Vec<String> = links
+        .iter()
+        .map(|(one, other)| format!("{one}-{other}"))
+        .collect();
     pairs.join(",")
 }

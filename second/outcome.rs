@@ -34,7 +34,12 @@ impl Outcome {
             .iter()
             .flat_map(|message| {
                 let round = byte(message.round);
-                [kind_byte(message.kind), round, byte(message.from), byte(message.to)]
+                [
+                    kind_byte(message.kind),
+                    round,
+                    byte(message.from),
+                    byte(message.to),
+                ]
             })
             .collect()
     }
@@ -84,7 +89,13 @@ fn run_and_check(question: &Question) -> Result<Outcome, String> {
     let paths = paths_walked_by_done(question, &search.log);
     let cut = cut_of(question, &search, &paths)?;
     let steps_in_rings = checks::check_marks(question, &search)?;
-    let outcome = Outcome { paths, rounds: search.rounds, log: search.log, cut, steps_in_rings };
+    let outcome = Outcome {
+        paths,
+        rounds: search.rounds,
+        log: search.log,
+        cut,
+        steps_in_rings,
+    };
     checks::check_outcome(question, &outcome, search.rounds_that_found)?;
     Ok(outcome)
 }
@@ -104,22 +115,31 @@ fn paths_walked_by_done(question: &Question, log: &[Message]) -> Vec<Vec<usize>>
 }
 
 /// One item a path, in path order; nothing where the last round found a path.
-fn cut_of(question: &Question, search: &Search, paths: &[Vec<usize>]) -> Result<Vec<CutItem>, String> {
+fn cut_of(
+    question: &Question,
+    search: &Search,
+    paths: &[Vec<usize>],
+) -> Result<Vec<CutItem>, String> {
     if !search.last_round_failed() {
         return Ok(Vec::new());
     }
-    paths.iter().map(|path| cut_item_of(question, search, path)).collect()
+    paths
+        .iter()
+        .map(|path| cut_item_of(question, search, path))
+        .collect()
 }
 
 fn cut_item_of(question: &Question, search: &Search, path: &[usize]) -> Result<CutItem, String> {
     let halves = halves_of_path(question, path);
-    let mut leaves = halves
-        .windows(2)
-        .filter(|pair| search.entered_in_last_round(pair[0]) && !search.entered_in_last_round(pair[1]));
+    let mut leaves = halves.windows(2).filter(|pair| {
+        search.entered_in_last_round(pair[0]) && !search.entered_in_last_round(pair[1])
+    });
     let (first, second) = (leaves.next(), leaves.next());
     match (first, second) {
         (Some(pair), None) => Ok(item_where_path_leaves(question, pair[0], pair[1])),
-        _ => Err(format!("path {path:?} does not leave the entered halves exactly once")),
+        _ => Err(format!(
+            "path {path:?} does not leave the entered halves exactly once"
+        )),
     }
 }
 

@@ -131,14 +131,24 @@ fn judge_number_of_links(links: usize) -> Result<(), Refusal> {
 }
 
 /// Refusals 5 and 6.
-fn judge_ends_and_wanted(map: Map, source: usize, destination: usize, wanted: usize) -> Result<Question, Refusal> {
+fn judge_ends_and_wanted(
+    map: Map,
+    source: usize,
+    destination: usize,
+    wanted: usize,
+) -> Result<Question, Refusal> {
     if source >= map.radios || destination >= map.radios || source == destination {
         return Err(Refusal::Ends);
     }
     if wanted == 0 || wanted > MOST_WANTED {
         return Err(Refusal::Wanted);
     }
-    Ok(Question { map, source, destination, wanted })
+    Ok(Question {
+        map,
+        source,
+        destination,
+        wanted,
+    })
 }
 
 /// Refusals 7 and 8.

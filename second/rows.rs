@@ -5,7 +5,11 @@ use crate::outcome::{run_checked, CutItem, Outcome};
 use crate::refusals::{judge_call, lengths_needed, Call, Lengths};
 
 /// Enough for every map: 4·17·574 for the log, 62+24 for the paths, 8 for the cut.
-const ENOUGH_FOR_ALL: Lengths = Lengths { log: 39_032, paths: 86, cut: 8 };
+const ENOUGH_FOR_ALL: Lengths = Lengths {
+    log: 39_032,
+    paths: 86,
+    cut: 8,
+};
 
 enum Shape {
     Links(&'static [(usize, usize)]),
@@ -29,19 +33,49 @@ const fn row(
     destination: usize,
     wanted: usize,
 ) -> Row {
-    Row { name, radios, shape, source, destination, wanted }
+    Row {
+        name,
+        radios,
+        shape,
+        source,
+        destination,
+        wanted,
+    }
 }
 
-const MAP_Q: Shape =
-    Shape::Links(&[(0, 1), (0, 4), (1, 2), (1, 6), (2, 3), (2, 5), (3, 4), (3, 7), (6, 7)]);
+const MAP_Q: Shape = Shape::Links(&[
+    (0, 1),
+    (0, 4),
+    (1, 2),
+    (1, 6),
+    (2, 3),
+    (2, 5),
+    (3, 4),
+    (3, 7),
+    (6, 7),
+]);
 
 const ROWS: [Row; 11] = [
     row("two-linked-1", 2, Shape::Links(&[(0, 1)]), 0, 1, 1),
     row("two-linked-2", 2, Shape::Links(&[(0, 1)]), 0, 1, 2),
     row("two-apart-1", 2, Shape::Links(&[]), 0, 1, 1),
     row("chain-2", 3, Shape::Links(&[(0, 1), (1, 2)]), 0, 2, 2),
-    row("walk-back-2", 4, Shape::Links(&[(0, 1), (0, 2), (1, 2), (1, 3), (2, 3)]), 0, 3, 2),
-    row("bottleneck-2", 5, Shape::Links(&[(0, 1), (0, 2), (1, 3), (2, 3), (3, 4)]), 0, 4, 2),
+    row(
+        "walk-back-2",
+        4,
+        Shape::Links(&[(0, 1), (0, 2), (1, 2), (1, 3), (2, 3)]),
+        0,
+        3,
+        2,
+    ),
+    row(
+        "bottleneck-2",
+        5,
+        Shape::Links(&[(0, 1), (0, 2), (1, 3), (2, 3), (3, 4)]),
+        0,
+        4,
+        2,
+    ),
     row("Q-1", 8, MAP_Q, 0, 7, 1),
     row("Q-2", 8, MAP_Q, 0, 7, 2),
     row("same-ends", 2, Shape::Links(&[(0, 1)]), 1, 1, 1),
@@ -61,8 +95,15 @@ fn write_row(row: &Row) -> Result<String, String> {
     let judged = judge_call(&call_of(row, ENOUGH_FOR_ALL))
         .and_then(|question| judge_call(&call_of(row, lengths_needed(&question))));
     match judged {
-        Err(refusal) => Ok(format!("{asked} => refused {} place {}", refusal.number(), refusal.place())),
-        Ok(question) => Ok(format!("{asked} => {}", write_outcome(&question, &run_checked(&question)?))),
+        Err(refusal) => Ok(format!(
+            "{asked} => refused {} place {}",
+            refusal.number(),
+            refusal.place()
+        )),
+        Ok(question) => Ok(format!(
+            "{asked} => {}",
+            write_outcome(&question, &run_checked(&question)?)
+        )),
     }
 }
 
@@ -93,11 +134,18 @@ fn write_asked(row: &Row) -> String {
         Shape::Links(links) => format!("links={}", write_links(links)),
         Shape::Cells(cells) => format!("cells={}", join(cells, ",")),
     };
-    format!("{}: n={} {shape} S={} T={} k={}", row.name, row.radios, row.source, row.destination, row.wanted)
+    format!(
+        "{}: n={} {shape} S={} T={} k={}",
+        row.name, row.radios, row.source, row.destination, row.wanted
+    )
 }
 
 fn write_outcome(question: &Question, outcome: &Outcome) -> String {
-    let word = if outcome.paths.len() == question.wanted { "full" } else { "short" };
+    let word = if outcome.paths.len() == question.wanted {
+        "full"
+    } else {
+        "short"
+    };
     let paths: Vec<String> = outcome.paths.iter().map(|path| join(path, "-")).collect();
     let cut: Vec<String> = outcome.cut.iter().map(write_cut_item).collect();
     format!(

@@ -30,7 +30,11 @@ pub struct Capture {
 /// The whole program: a text in, its sheet out. An error is a failed check, never a refusal.
 pub fn sheet_of_text(text: &[u8]) -> Result<String, String> {
     match judge_text(text) {
-        Err(refusal) => Ok(format!("refused\t{}\t{}\n", refusal.number(), refusal.place())),
+        Err(refusal) => Ok(format!(
+            "refused\t{}\t{}\n",
+            refusal.number(),
+            refusal.place()
+        )),
         Ok((number, question)) => Ok(write_sheet(number, &question, &run_checked(&question)?)),
     }
 }
@@ -57,9 +61,20 @@ fn read_capture(text: &[u8]) -> Result<Capture, Refusal> {
         let Some([first, second]) = read_line(line, b"link") else {
             return Err(Refusal::LineShape { line: line_number });
         };
-        links.push(LinkLine { line: line_number, first, second });
+        links.push(LinkLine {
+            line: line_number,
+            first,
+            second,
+        });
     }
-    Ok(Capture { number, radios, source, destination, wanted, links })
+    Ok(Capture {
+        number,
+        radios,
+        source,
+        destination,
+        wanted,
+        links,
+    })
 }
 
 /// A line that is the word, then exactly COUNT numbers, fields parted by a tab, and a line feed.
@@ -82,14 +97,24 @@ fn read_number(field: &[u8]) -> Option<usize> {
     if field.is_empty() || field.len() > MOST_DIGITS || has_leading_zero || !only_digits {
         return None;
     }
-    let number = field.iter().fold(0, |number, digit| 10 * number + usize::from(digit - b'0'));
+    let number = field
+        .iter()
+        .fold(0, |number, digit| 10 * number + usize::from(digit - b'0'));
     (number <= LARGEST_NUMBER).then_some(number)
 }
 
 fn write_sheet(number: usize, question: &Question, outcome: &Outcome) -> String {
     let paths = outcome.paths.len();
-    let word = if paths == question.wanted { "full" } else { "short" };
-    let mut sheet = format!("report\t{number}\t{word}\t{paths}\t{}\t{}\n", outcome.rounds, outcome.messages());
+    let word = if paths == question.wanted {
+        "full"
+    } else {
+        "short"
+    };
+    let mut sheet = format!(
+        "report\t{number}\t{word}\t{paths}\t{}\t{}\n",
+        outcome.rounds,
+        outcome.messages()
+    );
     for (place, path) in outcome.paths.iter().enumerate() {
         let radios: Vec<String> = path.iter().map(usize::to_string).collect();
         sheet += &format!("path\t{}\t{}\n", place + 1, radios.join("\t"));

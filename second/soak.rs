@@ -55,10 +55,14 @@ impl Tally {
     fn write(&self) -> String {
         let rings = match self.fewest_radios_with_ring {
             None => "no run left a ring".to_string(),
-            Some(radios) => format!("{} runs left a ring, the smallest map {radios} radios", self.with_rings),
+            Some(radios) => format!(
+                "{} runs left a ring, the smallest map {radios} radios",
+                self.with_rings
+            ),
         };
         format!(
-            "{} runs held against every check: {} full, {} short; {} messages, at most {} in a run, {} runs at the bound; {rings}\n",
+            "{} runs held against every check: {} full, {} short; \
+             {} messages, at most {} in a run, {} runs at the bound; {rings}\n",
             self.runs,
             self.full,
             self.runs - self.full,
@@ -84,8 +88,9 @@ pub fn soak(count: usize, seed: u64) -> Result<String, String> {
 
 /// Every map of that many radios, every S and T, every k that can matter and one more.
 pub fn every(radios: usize) -> Result<String, String> {
-    let pairs: Vec<(usize, usize)> =
-        (0..radios).flat_map(|upper| (0..upper).map(move |lower| (lower, upper))).collect();
+    let pairs: Vec<(usize, usize)> = (0..radios)
+        .flat_map(|upper| (0..upper).map(move |lower| (lower, upper)))
+        .collect();
     let mut tally = Tally::default();
     for choice in 0..1usize << pairs.len() {
         let mut map = Map::without_links(radios);
@@ -104,7 +109,12 @@ fn run_all_questions(map: &Map, tally: &mut Tally) -> Result<(), String> {
     for source in 0..map.radios {
         for destination in (0..map.radios).filter(|&radio| radio != source) {
             for wanted in 1..=map.radios.min(MOST_WANTED) {
-                tally.run(&Question { map: map.clone(), source, destination, wanted })?;
+                tally.run(&Question {
+                    map: map.clone(),
+                    source,
+                    destination,
+                    wanted,
+                })?;
             }
         }
     }
@@ -116,11 +126,29 @@ fn check_lengths_on_both_sides(question: &Question) -> Result<(), String> {
     let needed = lengths_needed(question);
     let mut cases = vec![
         (needed, None),
-        (Lengths { paths: needed.paths - 1, ..needed }, Some(Refusal::ListTooShort)),
-        (Lengths { cut: needed.cut - 1, ..needed }, Some(Refusal::ListTooShort)),
+        (
+            Lengths {
+                paths: needed.paths - 1,
+                ..needed
+            },
+            Some(Refusal::ListTooShort),
+        ),
+        (
+            Lengths {
+                cut: needed.cut - 1,
+                ..needed
+            },
+            Some(Refusal::ListTooShort),
+        ),
     ];
     if needed.log > 0 {
-        cases.push((Lengths { log: needed.log - 1, ..needed }, Some(Refusal::LogTooShort)));
+        cases.push((
+            Lengths {
+                log: needed.log - 1,
+                ..needed
+            },
+            Some(Refusal::LogTooShort),
+        ));
     }
     for (lengths, expected) in cases {
         let call = Call {
@@ -133,7 +161,10 @@ fn check_lengths_on_both_sides(question: &Question) -> Result<(), String> {
         };
         let got = judge_call(&call).err();
         if got != expected {
-            return Err(format!("{lengths:?}: expected {expected:?}, got {got:?}\n  case: {}", question.describe()));
+            return Err(format!(
+                "{lengths:?}: expected {expected:?}, got {got:?}\n  case: {}",
+                question.describe()
+            ));
         }
     }
     Ok(())
@@ -142,13 +173,19 @@ fn check_lengths_on_both_sides(question: &Question) -> Result<(), String> {
 /// The map written as a capture text is read back as it was.
 fn check_text_reads_back(question: &Question) -> Result<(), String> {
     let (radios, wanted) = (question.map.radios, question.wanted);
-    let mut text = format!("net\t1\t{radios}\t{}\t{}\t{wanted}\n", question.source, question.destination);
+    let mut text = format!(
+        "net\t1\t{radios}\t{}\t{}\t{wanted}\n",
+        question.source, question.destination
+    );
     for (lower, upper) in question.map.links() {
         text += &format!("link\t{lower}\t{upper}\n");
     }
     match judge_text(text.as_bytes()) {
         Ok((1, ref read)) if read == question => Ok(()),
-        other => Err(format!("the capture text was read as {other:?}\n  case: {}", question.describe())),
+        other => Err(format!(
+            "the capture text was read as {other:?}\n  case: {}",
+            question.describe()
+        )),
     }
 }
 
@@ -183,7 +220,11 @@ impl Chance {
 
 /// Half of the maps are small, where all cuts are tried as well.
 fn random_question(chance: &mut Chance) -> Question {
-    let most = if chance.below(2) == 0 { 12 } else { MOST_RADIOS };
+    let most = if chance.below(2) == 0 {
+        12
+    } else {
+        MOST_RADIOS
+    };
     let radios = chance.between(FEWEST_RADIOS, most);
     let mut pairs = match chance.below(4) {
         0 => scattered_pairs(chance, radios),
@@ -244,7 +285,9 @@ fn scattered_pairs(chance: &mut Chance, radios: usize) -> Vec<(usize, usize)> {
 }
 
 fn tree_with_more(chance: &mut Chance, radios: usize) -> Vec<(usize, usize)> {
-    let mut pairs: Vec<(usize, usize)> = (1..radios).map(|upper| (chance.below(upper), upper)).collect();
+    let mut pairs: Vec<(usize, usize)> = (1..radios)
+        .map(|upper| (chance.below(upper), upper))
+        .collect();
     for _ in 0..chance.below(2 * radios) {
         let upper = chance.between(1, radios - 1);
         pairs.push((chance.below(upper), upper));

@@ -1,10 +1,104 @@
--- The laws of counting and of the first that passes. Assumes nothing.
-use mathlib.Core.Path.{_≡_, refl}
-use mathlib.Core.Bool.{Bool, true, false}
-use Prim.Native.Nat.{ℕ, zero, suc, _+_, _-_, _≤_, _<_}
+-- The laws of sums, of counting and of the first that passes. Assumes nothing.
+use mathlib.Core.Path.{_≡_, refl, sym, ap, _∙_}
+use mathlib.Core.Bool.{Bool, true, false, _&&_}
+use Prim.Native.Nat.{ℕ, zero, suc, _+_, _*_, _-_, _≤_, _<_}
 use native.Mathlib.Omega.{arith}
 use native.Mathlib.Decide.{ℕ-discrete}
-use Rattle.basics.specs.Counting.{firstOf, firstFrom, First}
+use lib.Dec.{eqb}
+use borrow.Author.Tests.{eq-eqb, ne-eqb}
+use Rattle.basics.specs.Counting.{oneIf, sum, count, firstOf, firstFrom, First}
+
+-- ---- sums
+
+-- equal below n, equal sums
+pub sum-ext : (f g : ℕ → ℕ) (n : ℕ) → ((x : ℕ) → x < n → f x ≡ g x) → sum f n ≡ sum g n
+unfolding sum
+sum-ext f g zero h = refl
+sum-ext f g (suc n) h = omega (arith, h n (omega arith), sum-ext f g n (λ x p. h x (omega arith)))
+
+-- where f and g differ below n at y alone, their sums differ as f y and g y do
+pub sum-update : (f g : ℕ → ℕ) (y n : ℕ) → y < n → ((x : ℕ) → x < n → (x ≡ y → ⊥) → f x ≡ g x) → sum f n + g y ≡ sum g n + f y
+unfolding sum
+sum-update f g y zero p h = omega arith
+sum-update f g y (suc n) p h = go (ℕ-discrete n y) (λ q. sum-update f g y n q (λ x r. h x (omega arith)))
+  where
+    go : Dec (n ≡ y) → (y < n → sum f n + g y ≡ sum g n + f y) → f n + sum f n + g y ≡ g n + sum g n + f y
+    go (yes e) ih = omega (arith, ap f e, ap g e, sum-ext f g n (λ x q. h x (omega arith) (λ (u : x ≡ y). omega arith)))
+    go (no e) ih = omega (arith, ih (omega arith), h n (omega arith) e)
+
+-- a sum of sums
+pub sum-add : (f g : ℕ → ℕ) (n : ℕ) → sum (λ x. f x + g x) n ≡ sum f n + sum g n
+unfolding sum
+sum-add f g zero = refl
+sum-add f g (suc n) = omega (arith, sum-add f g n)
+
+-- nothing, n times
+pub sum-zero : (n : ℕ) → sum (λ x. 0) n ≡ 0
+unfolding sum
+sum-zero zero = refl
+sum-zero (suc n) = omega (arith, sum-zero n)
+
+-- one, n times
+pub sum-one : (n : ℕ) → sum (λ x. 1) n ≡ n
+unfolding sum
+sum-one zero = refl
+sum-one (suc n) = omega (arith, sum-one n)
+
+-- rows first or columns first
+pub sum-swap : (f : ℕ → ℕ → ℕ) (n m : ℕ) → sum (λ x. sum (f x) m) n ≡ sum (λ y. sum (λ x. f x y) n) m
+unfolding sum
+sum-swap f zero m = sym (sum-zero m)
+sum-swap f (suc n) m = omega (arith, sum-swap f n m, sum-add (f n) (λ y. sum (λ x. f x y) n) m)
+
+-- twice as many, two at a time
+pub sum-pairs : (f : ℕ → ℕ) (n : ℕ) → sum f (2 * n) ≡ sum (λ x. f (2 * x) + f (2 * x + 1)) n
+unfolding sum
+sum-pairs f zero = refl
+sum-pairs f (suc n) = ap (sum f) two ∙ omega (arith, sum-pairs f n, ap f one)
+  where
+    two : 2 * suc n ≡ suc (suc (2 * n))
+    two = omega arith
+
+    one : suc (2 * n) ≡ 2 * n + 1
+    one = omega arith
+
+-- one of the numbers added is at most the sum
+sum-above : (f : ℕ → ℕ) (a n : ℕ) → a < n → f a ≤ sum f n
+unfolding sum
+sum-above f a zero p = absurd (omega arith)
+sum-above f a (suc n) p = go (ℕ-discrete a n) (sum-above f a n)
+  where
+    go : Dec (a ≡ n) → (a < n → f a ≤ sum f n) → f a ≤ f n + sum f n
+    go (yes e) ih = omega (arith, ap f e)
+    go (no e) ih = omega (arith, ih (omega arith))
+
+-- and so are two of them together
+pub sum-above-two : (f : ℕ → ℕ) (a b n : ℕ) → a < n → b < n → (a ≡ b → ⊥) → f a + f b ≤ sum f n
+unfolding sum
+sum-above-two f a b zero p q ne = absurd (omega arith)
+sum-above-two f a b (suc n) p q ne = go (ℕ-discrete a n) (ℕ-discrete b n) (λ p′ q′. sum-above-two f a b n p′ q′ ne)
+  where
+    go : Dec (a ≡ n) → Dec (b ≡ n) → (a < n → b < n → f a + f b ≤ sum f n) → f a + f b ≤ f n + sum f n
+    go (yes e) (yes d) ih = absurd (ne (omega arith))
+    go (yes e) (no d) ih = omega (arith, ap f e, sum-above f b n (omega arith))
+    go (no e) (yes d) ih = omega (arith, ap f d, sum-above f a n (omega arith))
+    go (no e) (no d) ih = omega (arith, ih (omega arith) (omega arith))
+
+-- ---- counting
+
+-- one test counts for at most one
+pub one-at-most : (b : Bool) → oneIf b ≤ 1
+one-at-most true = omega arith
+one-at-most false = omega arith
+
+-- of the numbers below n the number c alone passes, if k holds
+pub count-only : (k : Bool) (c n : ℕ) → c < n → count (λ x. eqb x c && k) n ≡ oneIf k
+count-only k c n p = omega (arith, sum-update (λ x. oneIf (eqb x c && k)) (λ x. 0) c n p (λ x q ne. rw (ne-eqb x c ne)), sum-zero n, at)
+  where
+    at : oneIf (eqb c c && k) ≡ oneIf k
+    at = rw (eq-eqb c c refl)
+
+-- ---- the first that passes
 
 first-of : (test : ℕ → Bool) (i f limit : ℕ) → i + f ≡ limit → First test i limit (firstOf test i f)
 unfolding firstOf

@@ -1,18 +1,20 @@
--- "Maps on both sides of each edge" of document 01: its ten rows proved together, and the case Q with k = 3 beside them.
+-- "Maps on both sides of each edge" of document 01: its ten rows proved together, and the case Q with k = 3 given whole.
 use mathlib.Core.Path.{_≡_, refl}
 use mathlib.Core.Bool.{Bool, true, false}
 use mathlib.Core.List.{List, [], _∷_, map}
 use Prim.Native.Nat.{ℕ, _+_, _-_, _*_}
 use lib.Dec.{eqb}
-use lib.ListN.{length, set, replicate}
+use lib.ListN.{set, replicate}
 use Rattle.basics.specs.Counting.{sum, firstOf}
-use Rattle.site.specs.Map.{Site, linked, links, exists, passes, insideStep, linkStep, step, A}
-use Rattle.site.specs.Refusals.{Call, bad, badAt, badCell, firstBad, finding, verdict, pathsNeed}
+use Rattle.site.specs.Map.{linked, links, exists, passes, insideStep, linkStep, step, A}
+use Rattle.site.specs.Refusals.{Call, callOf, bad, badAt, badCell, firstBad, finding, verdict}
 use Rattle.tokens.specs.Rules.{mayWalk, candidate, canTry, nextPlace, gets, nextMarked, passOn, release, carry, tries, search, reversed, grant, decline, goOn, innerStep}
-use Rattle.tokens.specs.Run.{runFrom, walked, cutItem, itemOf}
+use Rattle.tokens.specs.Run.{runOn, walked, cutItem, itemOf}
+use Rattle.outcome.specs.declared.Outcome.{Outcome}
 use Rattle.outcome.specs.Leaves.{runOf, pathsFound, cutFound, pathBytes, logBytes, zerosAfter, outcome, logLeft, pathsLeft, cutLeft}
 
--- the table of n radios with these links
+-- ---- a map given by its links
+
 abbrev withLinks : ℕ → List ℕ → List (ℕ × ℕ) → List ℕ
 withLinks n table [] = table
 withLinks n table (l ∷ rest) = withLinks n (set (set table (l .0 * n + l .1) 1) (l .1 * n + l .0) 1) rest
@@ -20,61 +22,70 @@ withLinks n table (l ∷ rest) = withLinks n (set (set table (l .0 * n + l .1) 1
 abbrev tableOf : ℕ → List (ℕ × ℕ) → List ℕ
 tableOf n list = withLinks n (replicate (n * n) 0) list
 
--- what a row tells of its call
-pub record Told : Type 0 where
-  pub refusal : ℕ
-  pub place : ℕ
+-- ---- what is told of a call
+
+pub record Ran : Type 0 where
   pub full : Bool
-  pub paths : ℕ
   pub rounds : ℕ
   pub messages : ℕ
   pub pathList : List ℕ
   pub cutList : List ℕ
   pub A : ℕ
 
--- the same, of what the definitions say that the call leaves
+pub record Refused : Type 0 where
+  pub number : ℕ
+  pub place : ℕ
+  pub counts : List ℕ
+  pub log : List ℕ
+  pub pathList : List ℕ
+  pub cutList : List ℕ
+
+pub data Told : Type 0 where
+  ran : Ran → Told
+  refused : Refused → Told
+
+-- by the definitions
 abbrev toldOf : Call → Told
 toldOf call =
     let o = outcome call in
-    record {
-      refusal = o .refusal;
-      place = o .place;
-      full = eqb (o .paths) (call .k);
-      paths = o .paths;
-      rounds = o .rounds;
-      messages = o .messages;
-      pathList = pathsLeft call;
-      cutList = cutLeft call;
-      A = A (call .site);
-    }
+    elim (eqb (o .refusal) 0) [
+      | true ↦
+          ran (record { full = eqb (o .paths) (call .k); rounds = o .rounds; messages = o .messages; pathList = pathsLeft call; cutList = cutLeft call; A = A (call .site) })
+      | false ↦
+          refused
+          (record {
+            number = o .refusal;
+            place = o .place;
+            counts = o .paths ∷ o .rounds ∷ o .messages ∷ [];
+            log = logLeft call;
+            pathList = pathsLeft call;
+            cutList = cutLeft call;
+          })
+    ]
 
--- a row: the call, with a log of just so many bytes, and what document 01 says of it
+-- ---- the table's rows
+
 pub record Row : Type 0 where
   pub made : Call
   pub told : Told
 
-abbrev callOf : ℕ → List ℕ → ℕ → ℕ → ℕ → ℕ → Call
-callOf n table S T k log =
-    let site : Site = record { n = n; table = table; S = S; T = T } in
-    record { site = site; k = k; logLength = log; pathsLength = pathsNeed site k; cutLength = k }
-
--- an accepted row: n, links, S, T, k, the paths, rounds, messages, the cut, A
-abbrev row : ℕ → List (ℕ × ℕ) → ℕ → ℕ → ℕ → Bool → List (List ℕ) → ℕ → ℕ → List ℕ → ℕ → Row
-row n list S T k full paths rounds messages cut steps =
+-- n, links, S, T, k; full, the paths, rounds, messages, the cut, A. Each buffer is just long enough
+abbrev accepts : ℕ → List (ℕ × ℕ) → ℕ → ℕ → ℕ → Bool → List (List ℕ) → ℕ → ℕ → List ℕ → ℕ → Row
+accepts n list S T k full paths rounds messages cut steps =
+    let pathsLength = n - 2 + 3 * k in
     record {
-      made = callOf n (tableOf n list) S T k (4 * ((2 * k + 1) * steps));
+      made = callOf n (tableOf n list) S T k (4 * ((2 * k + 1) * steps)) pathsLength k;
+      told = ran (record { full = full; rounds = rounds; messages = messages; pathList = zerosAfter pathsLength (pathBytes paths); cutList = zerosAfter k cut; A = steps });
+    }
+
+-- n, cells, S, T, k; number, place. The buffers are 12, 3 and 1 bytes long
+abbrev refuses : ℕ → List ℕ → ℕ → ℕ → ℕ → ℕ → ℕ → Row
+refuses n table S T k number place =
+    record {
+      made = callOf n table S T k 12 3 1;
       told =
-          record {
-            refusal = 0;
-            place = 0;
-            full = full;
-            paths = length paths;
-            rounds = rounds;
-            messages = messages;
-            pathList = zerosAfter (n - 2 + 3 * k) (pathBytes paths);
-            cutList = zerosAfter k cut;
-            A = steps;
-          };
+          refused
+          (record { number = number; place = place; counts = 0 ∷ 0 ∷ 0 ∷ []; log = replicate 12 0; pathList = replicate 3 0; cutList = replicate 1 0 });
     }
 
 abbrev Q : List (ℕ × ℕ)
@@ -82,16 +93,55 @@ Q = (0, 1) ∷ (0, 4) ∷ (1, 2) ∷ (1, 6) ∷ (2, 3) ∷ (2, 5) ∷ (3, 4) ∷
 
 abbrev rows : List Row
 rows =
-    row 2 ((0, 1) ∷ []) 0 1 1 true ((0 ∷ 1 ∷ []) ∷ []) 1 3 [] 1
-    ∷ row 2 ((0, 1) ∷ []) 0 1 2 false ((0 ∷ 1 ∷ []) ∷ []) 2 3 (255 ∷ []) 1
-    ∷ row 2 [] 0 1 1 false [] 1 0 [] 0
-    ∷ row 3 ((0, 1) ∷ (1, 2) ∷ []) 0 2 2 false ((0 ∷ 1 ∷ 2 ∷ []) ∷ []) 2 9 (1 ∷ []) 3
-    ∷ row 4 ((0, 1) ∷ (0, 2) ∷ (1, 2) ∷ (1, 3) ∷ (2, 3) ∷ []) 0 3 2 true ((0 ∷ 1 ∷ 3 ∷ []) ∷ (0 ∷ 2 ∷ 3 ∷ []) ∷ []) 2 24 [] 8
-    ∷ row 5 ((0, 1) ∷ (0, 2) ∷ (1, 3) ∷ (2, 3) ∷ (3, 4) ∷ []) 0 4 2 false ((0 ∷ 1 ∷ 3 ∷ 4 ∷ []) ∷ []) 2 35 (3 ∷ []) 10
-    ∷ row 8 Q 0 7 1 true ((0 ∷ 1 ∷ 2 ∷ 3 ∷ 7 ∷ []) ∷ []) 1 31 [] 20
-    ∷ row 8 Q 0 7 2 true ((0 ∷ 1 ∷ 6 ∷ 7 ∷ []) ∷ (0 ∷ 4 ∷ 3 ∷ 7 ∷ []) ∷ []) 2 62 [] 20
+    accepts 2 ((0, 1) ∷ []) 0 1 1 true ((0 ∷ 1 ∷ []) ∷ []) 1 3 [] 1
+    ∷ accepts 2 ((0, 1) ∷ []) 0 1 2 false ((0 ∷ 1 ∷ []) ∷ []) 2 3 (255 ∷ []) 1
+    ∷ accepts 2 [] 0 1 1 false [] 1 0 [] 0
+    ∷ accepts 3 ((0, 1) ∷ (1, 2) ∷ []) 0 2 2 false ((0 ∷ 1 ∷ 2 ∷ []) ∷ []) 2 9 (1 ∷ []) 3
+    ∷ accepts 4 ((0, 1) ∷ (0, 2) ∷ (1, 2) ∷ (1, 3) ∷ (2, 3) ∷ []) 0 3 2 true ((0 ∷ 1 ∷ 3 ∷ []) ∷ (0 ∷ 2 ∷ 3 ∷ []) ∷ []) 2 24 [] 8
+    ∷ accepts 5 ((0, 1) ∷ (0, 2) ∷ (1, 3) ∷ (2, 3) ∷ (3, 4) ∷ []) 0 4 2 false ((0 ∷ 1 ∷ 3 ∷ 4 ∷ []) ∷ []) 2 35 (3 ∷ []) 10
+    ∷ accepts 8 Q 0 7 1 true ((0 ∷ 1 ∷ 2 ∷ 3 ∷ 7 ∷ []) ∷ []) 1 31 [] 20
+    ∷ accepts 8 Q 0 7 2 true ((0 ∷ 1 ∷ 6 ∷ 7 ∷ []) ∷ (0 ∷ 4 ∷ 3 ∷ 7 ∷ []) ∷ []) 2 62 [] 20
+    ∷ refuses 2 (tableOf 2 ((0, 1) ∷ [])) 1 1 1 5 0
+    ∷ refuses 2 (0 ∷ 1 ∷ 0 ∷ 0 ∷ []) 0 1 1 3 1
     ∷ []
 
-pub eight : map (λ (r : Row). toldOf (r .made)) rows ≡ map (λ (r : Row). r .told) rows
-unfolding sum firstOf linked links exists passes insideStep linkStep step A bad badAt badCell firstBad finding verdict mayWalk candidate canTry nextPlace gets nextMarked passOn release carry tries search reversed grant decline goOn innerStep runFrom walked cutItem itemOf runOf pathsFound cutFound pathBytes logBytes outcome logLeft pathsLeft cutLeft
-eight = refl
+-- every row of the table is what the definitions say
+pub ten-maps : map (λ (row : Row). toldOf (row .made)) rows ≡ map (λ (row : Row). row .told) rows
+unfolding sum firstOf linked links exists passes insideStep linkStep step A bad badAt badCell firstBad finding verdict mayWalk candidate canTry nextPlace gets nextMarked passOn release carry tries search reversed grant decline goOn innerStep runOn walked cutItem itemOf runOf pathsFound cutFound pathBytes logBytes outcome logLeft pathsLeft cutLeft
+ten-maps = refl
+
+-- ---- the case given whole
+
+pub record Whole : Type 0 where
+  pub numbers : Outcome
+  pub log : List ℕ
+  pub pathList : List ℕ
+  pub cutList : List ℕ
+
+-- its numbers: refusal, place, paths, rounds, messages
+abbrev shortOfQ : Outcome
+shortOfQ = record { refusal = 0; place = 0; paths = 2; rounds = 3; messages = 62 }
+
+-- its 62 messages, eight to a line: kind, round, sending half, receiving half
+abbrev logOfQ : List ℕ
+logOfQ =
+    1 ∷ 1 ∷ 1 ∷ 2 ∷ 1 ∷ 1 ∷ 2 ∷ 3 ∷ 1 ∷ 1 ∷ 3 ∷ 4 ∷ 1 ∷ 1 ∷ 4 ∷ 5 ∷ 1 ∷ 1 ∷ 5 ∷ 2 ∷ 2 ∷ 1 ∷ 2 ∷ 5 ∷ 1 ∷ 1 ∷ 5 ∷ 6 ∷ 1 ∷ 1 ∷ 6 ∷ 7
+    ∷ 1 ∷ 1 ∷ 7 ∷ 4 ∷ 2 ∷ 1 ∷ 4 ∷ 7 ∷ 1 ∷ 1 ∷ 7 ∷ 8 ∷ 1 ∷ 1 ∷ 8 ∷ 9 ∷ 1 ∷ 1 ∷ 9 ∷ 6 ∷ 2 ∷ 1 ∷ 6 ∷ 9 ∷ 2 ∷ 1 ∷ 9 ∷ 8 ∷ 2 ∷ 1 ∷ 8 ∷ 7
+    ∷ 1 ∷ 1 ∷ 7 ∷ 14 ∷ 3 ∷ 1 ∷ 14 ∷ 7 ∷ 3 ∷ 1 ∷ 7 ∷ 6 ∷ 3 ∷ 1 ∷ 6 ∷ 5 ∷ 3 ∷ 1 ∷ 5 ∷ 4 ∷ 3 ∷ 1 ∷ 4 ∷ 3 ∷ 3 ∷ 1 ∷ 3 ∷ 2 ∷ 3 ∷ 1 ∷ 2 ∷ 1
+    ∷ 1 ∷ 2 ∷ 1 ∷ 8 ∷ 1 ∷ 2 ∷ 8 ∷ 9 ∷ 1 ∷ 2 ∷ 9 ∷ 6 ∷ 1 ∷ 2 ∷ 6 ∷ 5 ∷ 1 ∷ 2 ∷ 5 ∷ 2 ∷ 1 ∷ 2 ∷ 2 ∷ 1 ∷ 2 ∷ 2 ∷ 1 ∷ 2 ∷ 2 ∷ 2 ∷ 2 ∷ 5
+    ∷ 1 ∷ 2 ∷ 5 ∷ 10 ∷ 1 ∷ 2 ∷ 10 ∷ 11 ∷ 1 ∷ 2 ∷ 11 ∷ 4 ∷ 1 ∷ 2 ∷ 4 ∷ 3 ∷ 1 ∷ 2 ∷ 3 ∷ 12 ∷ 1 ∷ 2 ∷ 12 ∷ 13 ∷ 1 ∷ 2 ∷ 13 ∷ 2 ∷ 2 ∷ 2 ∷ 2 ∷ 13
+    ∷ 1 ∷ 2 ∷ 13 ∷ 14 ∷ 3 ∷ 2 ∷ 14 ∷ 13 ∷ 3 ∷ 2 ∷ 13 ∷ 12 ∷ 3 ∷ 2 ∷ 12 ∷ 3 ∷ 3 ∷ 2 ∷ 3 ∷ 4 ∷ 3 ∷ 2 ∷ 4 ∷ 11 ∷ 3 ∷ 2 ∷ 11 ∷ 10 ∷ 3 ∷ 2 ∷ 10 ∷ 5
+    ∷ 3 ∷ 2 ∷ 5 ∷ 6 ∷ 3 ∷ 2 ∷ 6 ∷ 9 ∷ 3 ∷ 2 ∷ 9 ∷ 8 ∷ 3 ∷ 2 ∷ 8 ∷ 1 ∷ 4 ∷ 3 ∷ 1 ∷ 2 ∷ 4 ∷ 3 ∷ 2 ∷ 3 ∷ 4 ∷ 3 ∷ 3 ∷ 12 ∷ 4 ∷ 3 ∷ 12 ∷ 13
+    ∷ 4 ∷ 3 ∷ 13 ∷ 14 ∷ 4 ∷ 3 ∷ 1 ∷ 8 ∷ 4 ∷ 3 ∷ 8 ∷ 9 ∷ 4 ∷ 3 ∷ 9 ∷ 6 ∷ 4 ∷ 3 ∷ 6 ∷ 7 ∷ 4 ∷ 3 ∷ 7 ∷ 14
+    ∷ []
+
+-- every number and every byte that the definitions say a call leaves
+abbrev wholeOf : Call → Whole
+wholeOf call = record { numbers = outcome call; log = logLeft call; pathList = pathsLeft call; cutList = cutLeft call }
+
+-- Q with k = 3: both paths, both cut items, and 0 past them
+pub case-Q :
+    wholeOf (callOf 8 (tableOf 8 Q) 0 7 3 560 15 3)
+    ≡ record { numbers = shortOfQ; log = zerosAfter 560 logOfQ; pathList = zerosAfter 15 (4 ∷ 0 ∷ 1 ∷ 6 ∷ 7 ∷ 4 ∷ 0 ∷ 4 ∷ 3 ∷ 7 ∷ []); cutList = 1 ∷ 4 ∷ 0 ∷ [] }
+unfolding sum firstOf linked links exists passes insideStep linkStep step A bad badAt badCell firstBad finding verdict mayWalk candidate canTry nextPlace gets nextMarked passOn release carry tries search reversed grant decline goOn innerStep runOn walked cutItem itemOf runOf pathsFound cutFound pathBytes logBytes outcome logLeft pathsLeft cutLeft
+case-Q = refl

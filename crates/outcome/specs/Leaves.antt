@@ -1,5 +1,5 @@
 -- "What a run leaves" of document 01: the numbers and every byte of the three lent buffers, as functions of the call.
-use mathlib.Core.Bool.{true, false}
+use mathlib.Core.Bool.{cond}
 use mathlib.Core.List.{List, [], _∷_, _++_}
 use Prim.Native.Nat.{ℕ, _-_}
 use lib.Dec.{eqb, ltb}
@@ -25,7 +25,7 @@ pathsFound call = pathsOf (call .site) (runOf call .log)
 unfoldable pub cutFound : Call → List ℕ
 cutFound call =
     let notes = notesOf (runOf call .last) in
-    elim (ltb (notes .found) (call .k)) [ true ↦ cutOf (call .site) (notes .entered) (pathsFound call) | false ↦ [] ]
+    cond (ltb (notes .found) (call .k)) (cutOf (call .site) (notes .entered) (pathsFound call)) []
 
 -- ---- bytes
 
@@ -54,7 +54,7 @@ zerosAfter size used = used ++ replicate (size - length used) 0
 
 -- an accepted run leaves its own, a refused one nothing
 abbrev pub ifAccepted {ℓ} : {X : Type ℓ} → Verdict → X → X → X
-ifAccepted verdict own nothing = elim (eqb (number verdict) 0) [ true ↦ own | false ↦ nothing ]
+ifAccepted verdict own nothing = cond (eqb (number verdict) 0) own nothing
 
 unfoldable pub outcome : Call → Outcome
 outcome call =

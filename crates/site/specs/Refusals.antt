@@ -1,5 +1,5 @@
 -- "Refusals by number, in this order" of document 01: 1 to 8 with their places.
-use mathlib.Core.Bool.{Bool, true, false, not, _&&_, _||_}
+use mathlib.Core.Bool.{Bool, true, false, not, _&&_, _||_, cond}
 use mathlib.Core.List.{List}
 use Prim.Native.Nat.{ℕ, _+_, _-_, _*_, _/_, _%_}
 use lib.Dec.{eqb, ltb}
@@ -43,7 +43,7 @@ firstBad table n = firstFrom (badCell table n) 0 (n * n)
 
 -- what the check of the table finds
 unfoldable pub finding : List ℕ → ℕ → Finding
-finding table n = elim (ltb (firstBad table n) (n * n)) [ true ↦ Bad (firstBad table n) | false ↦ Sound ]
+finding table n = cond (ltb (firstBad table n) (n * n)) (Bad (firstBad table n)) Sound
 
 -- ---- 7 and 8: how much a run may need
 

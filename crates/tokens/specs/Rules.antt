@@ -1,6 +1,6 @@
 -- "The token rules" of document 01, 1 to 7, as one inner step of the machine: it sends a message and delivers it, or the run is over.
--- `elim b [ true ↦ x | false ↦ y ]` reads: x if b holds, else y.
-use mathlib.Core.Bool.{Bool, true, false, not, _&&_, _||_}
+-- `cond b x y` reads: x if b holds, else y.
+use mathlib.Core.Bool.{Bool, true, false, not, _&&_, _||_, cond}
 use Prim.Native.Nat.{ℕ, suc, _+_, _-_}
 use lib.Dec.{eqb, ltb}
 use Rattle.basics.specs.Counting.{firstFrom}
@@ -73,8 +73,7 @@ mayWalk site marks x y = (step site x y && not (marks x y)) || (step site y x &&
 
 -- the half that stands at a place of half h's order: other radios by rising number, then its own other half last
 unfoldable pub candidate : Site → ℕ → ℕ → ℕ
-candidate site h place =
-    elim (ltb place (site .n)) [ true ↦ elim (isOut h) [ true ↦ inHalf place | false ↦ outHalf place ] | false ↦ elim (isOut h) [ true ↦ h - 1 | false ↦ h + 1 ] ]
+candidate site h place = cond (ltb place (site .n)) (cond (isOut h) (inHalf place) (outHalf place)) (cond (isOut h) (h - 1) (h + 1))
 
 -- half h can walk now to what stands at that place. Its own radio's number is no other radio's, and is passed over
 unfoldable pub canTry : Site → Marks → ℕ → ℕ → Bool
@@ -103,7 +102,7 @@ nextMarked site marks h v = firstFrom (λ w. marks h (inHalf w)) v (site .n)
 
 -- half h passes DONE over its marked link step to radio w, if there is one. S sent it to radio v
 unfoldable pub passOn : Site → ℕ → ℕ → ℕ → Notes → Next
-passOn site h v w notes = elim (ltb w (site .n)) [ true ↦ sends (message Done h (inHalf w)) (carrying v (inHalf w) notes) | false ↦ over ]
+passOn site h v w notes = cond (ltb w (site .n)) (sends (message Done h (inHalf w)) (carrying v (inHalf w) notes)) over
 
 -- S sends DONE to the first radio from v on with a marked step from S; where there is none, all is done
 unfoldable pub release : Site → ℕ → Notes → Next
@@ -133,7 +132,7 @@ search site notes (waits h i rest) = let place = nextPlace site (notes .marks) h
 
 -- the mark of the step between halves h and y, whichever way it leads, is reversed
 unfoldable pub reversed : Site → ℕ → ℕ → Marks → Marks
-reversed site h y marks a b = elim (step site a b && ((eqb a h && eqb b y) || (eqb a y && eqb b h))) [ true ↦ not (marks a b) | false ↦ marks a b ]
+reversed site h y marks a b = cond (step site a b && ((eqb a h && eqb b y) || (eqb a y && eqb b h))) (not (marks a b)) (marks a b)
 
 abbrev pub turning : Site → ℕ → ℕ → Notes → Notes
 turning site h y notes = record { round = notes .round; found = notes .found; marks = reversed site h y (notes .marks); entered = notes .entered }

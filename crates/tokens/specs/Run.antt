@@ -1,5 +1,5 @@
 -- A run of the token rules of document 01: its log, its rounds, the paths of rule 8, and "The cut".
-use mathlib.Core.Bool.{Bool, true, false}
+use mathlib.Core.Bool.{Bool, true, false, cond}
 use mathlib.Core.List.{List, [], _∷_, map}
 use Prim.Native.Nat.{ℕ, zero, suc}
 use lib.Dec.{eqb}
@@ -8,7 +8,7 @@ use Rattle.site.specs.Map.{Site, inHalf, outHalf, radioOf, isOut}
 use Rattle.tokens.specs.declared.Kind.{Kind}
 use Rattle.tokens.specs.declared.Kind.the-variants.{Pdt, PdtB, Pmt, Done}
 use Rattle.tokens.specs.declared.Message.{Message}
-use Rattle.tokens.specs.Rules.{Entered, Notes, State, searching, declining, granting, won, carrying, sends, over, innerStep}
+use Rattle.tokens.specs.Rules.{Entered, Notes, State, searching, declining, granting, won, carrying, Next, sends, over, innerStep}
 
 abbrev pub notesOf : State → Notes
 notesOf (searching notes waiting) = notes
@@ -32,10 +32,14 @@ pub record Run : Type 0 where
 abbrev pub logged : Message → State → Run → Run
 logged message state run = record { log = record { message = message; round = notesOf state .round } ∷ run .log; last = run .last }
 
--- inner steps from a state on until the run is over, or so many messages are sent
-unfoldable pub runFrom : Site → ℕ → ℕ → State → Run
-runFrom site k zero state = record { log = []; last = state }
-runFrom site k (suc budget) state = elim (innerStep site k state) [ sends message state′ ↦ logged message state′ (runFrom site k budget state′) | over ↦ record { log = []; last = state } ]
+-- the run from a state on whose next inner step is known, until it is over or so many messages are sent
+unfoldable pub runOn : Site → ℕ → ℕ → State → Next → Run
+runOn site k zero state next = record { log = []; last = state }
+runOn site k (suc budget) state over = record { log = []; last = state }
+runOn site k (suc budget) state (sends message state′) = logged message state′ (runOn site k budget state′ (innerStep site k state′))
+
+abbrev pub runFrom : Site → ℕ → ℕ → State → Run
+runFrom site k budget state = runOn site k budget state (innerStep site k state)
 
 -- ---- rule 8: the paths are those walked by DONE, in that order
 
@@ -78,11 +82,7 @@ atLink true true u v = directLink
 -- the item of a path whose radio u has its out half in R, with the radios after u
 unfoldable pub cutItem : Site → Entered → ℕ → List ℕ → ℕ
 cutItem site R u [] = u
-cutItem site R u (v ∷ rest) =
-    elim (R (inHalf v)) [
-      | false ↦ atLink (eqb v (site .T)) (eqb u (site .S)) u v
-      | true ↦ elim (R (outHalf v)) [ false ↦ v | true ↦ cutItem site R v rest ]
-    ]
+cutItem site R u (v ∷ rest) = cond (R (inHalf v)) (cond (R (outHalf v)) (cutItem site R v rest) v) (atLink (eqb v (site .T)) (eqb u (site .S)) u v)
 
 -- a path starts at S, whose out half is always in R
 unfoldable pub itemOf : Site → Entered → List ℕ → ℕ

@@ -1,0 +1,40 @@
+-- Tests and the facts that they tell: a test holds exactly if its fact does. Assumes nothing.
+use mathlib.Core.Path.{_≡_, refl}
+use mathlib.Core.Bool.{Bool, true, false, not, _||_, _&&_, false≢true}
+use mathlib.Core.Logic.{_⊎_, inl, inr, _↔_}
+use Prim.Native.Nat.{ℕ, _≤_, _<_}
+use lib.Dec.{eqb, ltb}
+use borrow.Author.Tests.{eqb-true, eq-eqb, ltb-true, ltb-false, lt-ltb, le-ltb, not-true}
+
+-- the test b holds exactly if P does
+abbrev pub Tells : Bool → Type 0 → Type 0
+Tells b P = b ≡ true ↔ P
+
+pub tells-below : (a b : ℕ) → Tells (ltb a b) (a < b)
+tells-below a b = (ltb-true a b, lt-ltb a b)
+
+pub tells-not-below : (a b : ℕ) → Tells (not (ltb a b)) (b ≤ a)
+tells-not-below a b = (λ e. ltb-false a b (not-true _ e), λ p. rw (le-ltb a b p))
+
+pub tells-equal : (a b : ℕ) → Tells (eqb a b) (a ≡ b)
+tells-equal a b = (eqb-true a b, eq-eqb a b)
+
+pub tells-or : (a b : Bool) {P R : Type 0} → Tells a P → Tells b R → Tells (a || b) (P ⊎ R)
+tells-or true b p r = (λ e. inl (p .0 refl), λ e. refl)
+tells-or false b {P} {R} p r = (λ e. inr (r .0 e), back)
+  where
+    back : P ⊎ R → b ≡ true
+    back (inl x) = absurd (false≢true (p .1 x))
+    back (inr x) = r .1 x
+
+pub tells-and : (a b : Bool) {P R : Type 0} → Tells a P → Tells b R → Tells (a && b) (P × R)
+tells-and true b p r = (λ e. (p .0 refl, r .0 e), λ x. r .1 (x .1))
+tells-and false b p r = (λ e. absurd (false≢true e), λ x. absurd (false≢true (p .1 (x .0))))
+
+pub tells-not : (a : Bool) {P : Type 0} → Tells a P → Tells (not a) (P → ⊥)
+tells-not true p = (λ e. absurd (false≢true e), λ no-way. absurd (no-way (p .0 refl)))
+tells-not false p = (λ e x. false≢true (p .1 x), λ no-way. refl)
+
+-- the same test tells another fact that holds exactly if the first does
+pub tells-same : (a : Bool) {P R : Type 0} → Tells a P → (P ↔ R) → Tells a R
+tells-same a p e = (λ t. e .0 (p .0 t), λ x. p .1 (e .1 x))

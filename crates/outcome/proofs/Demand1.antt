@@ -1,0 +1,40 @@
+-- Demand 1 holds for every call. Assumes nothing.
+use mathlib.Core.Path.{_≡_, refl}
+use mathlib.Core.Bool.{false}
+use mathlib.Core.List.{[]}
+use lib.Dec.{eqb}
+use lib.ListN.{replicate}
+use native.Mathlib.Nat.{sub-zero}
+use borrow.Author.Tests.{ne-eqb}
+use Rattle.site.specs.Refusals.{Call, verdict, number, placeOf}
+use Rattle.site.proofs.Exactly as exactly
+use Rattle.outcome.specs.Leaves.{zerosAfter, outcome, logLeft, pathsLeft, cutLeft}
+use Rattle.outcome.specs.Demand1.{NothingLeft, Demand1}
+use Prim.Native.Nat.{ℕ}
+
+all-zeros : (size : ℕ) → zerosAfter size [] ≡ replicate size 0
+all-zeros size = rw sub-zero
+
+nothing-left : (call : Call) → (number (verdict call) ≡ 0 → ⊥) → NothingLeft call
+unfolding outcome logLeft pathsLeft cutLeft
+nothing-left call refused =
+    let no : eqb (number (verdict call)) 0 ≡ false = ne-eqb _ _ refused in
+    record {
+      paths = rw no;
+      rounds = rw no;
+      messages = rw no;
+      log = rw no (all-zeros (call .logLength));
+      pathList = rw no (all-zeros (call .pathsLength));
+      cutList = rw no (all-zeros (call .cutLength));
+    }
+
+pub demand-1 : (call : Call) → Demand1 call
+unfolding outcome
+demand-1 call =
+    record {
+      refused = exactly.refused-exactly call;
+      accepted = exactly.accepted-exactly call;
+      place-of-3 = exactly.place-of-3 call;
+      no-place = exactly.no-place (verdict call);
+      nothing-left = nothing-left call;
+    }

@@ -1,0 +1,186 @@
+-- The number of steps is the A that document 01, "The map", writes out. Assumes nothing.
+use mathlib.Core.Path.{_≡_, refl, sym, ap, _∙_}
+use mathlib.Core.List.{List}
+use mathlib.Core.Bool.{Bool, true, false, not, _&&_, and-true, and-false, or-false}
+use Prim.Native.Nat.{ℕ, _+_, _*_, _-_, _%_, _≤_, _<_}
+use native.Mathlib.Omega.{arith}
+use lib.Dec.{eqb, ltb}
+use borrow.Author.Tests.{eq-eqb, ne-eqb, lt-ltb, ltb-true, ltb-false}
+use Rattle.basics.specs.Counting.{oneIf, sum, count}
+use Rattle.basics.proofs.Counting.{sum-ext, sum-update, sum-add, sum-zero, sum-one, sum-swap, sum-pairs, sum-above-two, one-at-most, count-only}
+use Rattle.site.specs.Map.{Site, linked, degree, links, link, inHalf, outHalf, radioOf, isOut, exists, passes, insideStep, linkStep, step, A}
+
+-- the table is symmetric: u is linked to v if v is linked to u
+abbrev pub Even : List ℕ → ℕ → Type 0
+Even table n = (u v : ℕ) → linked table n u v ≡ linked table n v u
+
+-- ---- each link is counted at both its radios
+
+-- no radio is linked to itself
+not-to-itself : (table : List ℕ) (n u v : ℕ) → u ≡ v → linked table n u v ≡ false
+unfolding linked
+not-to-itself table n u v e = rw (eq-eqb u v e, and-false)
+
+-- of two linked radios one is the lower
+one-is-lower : (table : List ℕ) (n u v : ℕ) → oneIf (linked table n u v) ≡ oneIf (ltb u v && linked table n u v) + oneIf (ltb v u && linked table n u v)
+one-is-lower table n u v = go (ltb u v) (ltb v u) refl refl
+  where
+    go : (a b : Bool) → ltb u v ≡ a → ltb v u ≡ b → oneIf (linked table n u v) ≡ oneIf (a && linked table n u v) + oneIf (b && linked table n u v)
+    go true true p q = absurd (omega (arith, ltb-true u v p, ltb-true v u q))
+    go true false p q = omega arith
+    go false true p q = omega arith
+    go false false p q = ap oneIf (not-to-itself table n u v (omega (arith, ltb-false u v p, ltb-false v u q)))
+
+-- the degrees of all radios together are twice the number of links
+pub degrees-twice-links : (table : List ℕ) (n : ℕ) → Even table n → sum (degree table n) n ≡ 2 * links table n
+unfolding links
+degrees-twice-links table n even = omega (
+  arith,
+  sum-ext (degree table n) (λ u. sum (up u) n + sum (λ v. up v u) n) n (λ u p. row u),
+  sum-add (λ u. sum (up u) n) (λ u. sum (λ v. up v u) n) n,
+  sum-swap up n n,
+)
+  where
+    up : ℕ → ℕ → ℕ
+    up u v = oneIf (ltb u v && linked table n u v)
+
+    row : (u : ℕ) → degree table n u ≡ sum (up u) n + sum (λ v. up v u) n
+    row u = sum-ext (λ v. oneIf (linked table n u v)) (λ v. up u v + up v u) n (λ v p. one-is-lower table n u v ∙ rw (even u v)) ∙ sum-add (up u) (λ v. up v u) n
+
+-- ---- the steps between halves
+
+-- 2v is the in half of v and 2v+1 its out half
+in-is-not-out : (v : ℕ) → isOut (inHalf v) ≡ false
+in-is-not-out v = ne-eqb (2 * v % 2) 1 (omega arith)
+
+out-is-out : (v : ℕ) → isOut (outHalf v) ≡ true
+out-is-out v = eq-eqb ((2 * v + 1) % 2) 1 (omega arith)
+
+radio-of-in : (v : ℕ) → radioOf (inHalf v) ≡ v
+radio-of-in v = omega arith
+
+radio-of-out : (v : ℕ) → radioOf (outHalf v) ≡ v
+radio-of-out v = omega arith
+
+module _ (site : Site) where
+  -- from an in half there is the step inside, where the radio may stand inside a path, and no other
+  step-inside : (v b : ℕ) → step site (inHalf v) b ≡ (eqb b (outHalf v) && passes site v)
+  unfolding step insideStep linkStep
+  step-inside v b = rw (in-is-not-out v, radio-of-in v, or-false)
+
+  -- no step leads from an out half to an out half
+  step-to-out : (u v : ℕ) → step site (outHalf u) (outHalf v) ≡ false
+  unfolding step insideStep linkStep
+  step-to-out u v = rw (out-is-out u, out-is-out v)
+
+  -- from an out half to an in half there is a step for each link whose halves exist
+  step-over : (u v : ℕ) → step site (outHalf u) (inHalf v) ≡ (link site u v && exists site (outHalf u) && exists site (inHalf v))
+  unfolding step insideStep linkStep
+  step-over u v = rw (out-is-out u, in-is-not-out v, radio-of-out u, radio-of-in v)
+
+  -- T has no out half
+  none-from-T : (v : ℕ) → step site (outHalf (site .T)) (inHalf v) ≡ false
+  unfolding exists
+  none-from-T v = rw (step-over (site .T) v, eq-eqb (outHalf (site .T)) (outHalf (site .T)) refl, and-false, and-false)
+
+  -- S has no in half
+  none-into-S : (u : ℕ) → step site (outHalf u) (inHalf (site .S)) ≡ false
+  unfolding exists
+  none-into-S u = rw (step-over u (site .S), eq-eqb (inHalf (site .S)) (inHalf (site .S)) refl, and-false, and-false)
+
+  -- every radio but T has an out half
+  out-exists : (u : ℕ) → u < site .n → (u ≡ site .T → ⊥) → exists site (outHalf u) ≡ true
+  unfolding exists
+  out-exists u p nt = rw (radio-of-out u, lt-ltb u (site .n) p, ne-eqb (outHalf u) (inHalf (site .S)) (omega arith), ne-eqb (outHalf u) (outHalf (site .T)) (omega arith))
+
+  -- every radio but S has an in half
+  in-exists : (v : ℕ) → v < site .n → (v ≡ site .S → ⊥) → exists site (inHalf v) ≡ true
+  unfolding exists
+  in-exists v p ns = rw (radio-of-in v, lt-ltb v (site .n) p, ne-eqb (inHalf v) (inHalf (site .S)) (omega arith), ne-eqb (inHalf v) (outHalf (site .T)) (omega arith))
+
+  -- every link has its step but from T and into S
+  step-link : (u v : ℕ) → u < site .n → v < site .n → (u ≡ site .T → ⊥) → (v ≡ site .S → ⊥) → step site (outHalf u) (inHalf v) ≡ link site u v
+  step-link u v p q nt ns = rw (step-over u v, out-exists u p nt, in-exists v q ns) (simp and-true)
+
+  -- from the in half of v leads one step or none
+  row-in : (v : ℕ) → v < site .n → count (step site (inHalf v)) (2 * site .n) ≡ oneIf (passes site v)
+  row-in v p = sum-ext _ (λ b. oneIf (eqb b (outHalf v) && passes site v)) (2 * site .n) (λ b q. ap oneIf (step-inside v b)) ∙ count-only (passes site v) (outHalf v) (2 * site .n) (omega arith)
+
+  -- how many steps lead from the out half of u to in halves
+  abbrev over : ℕ → ℕ
+  over u = count (λ v. step site (outHalf u) (inHalf v)) (site .n)
+
+  -- and there are no others from it
+  row-out : (u : ℕ) → count (step site (outHalf u)) (2 * site .n) ≡ over u
+  row-out u = sum-pairs (λ b. oneIf (step site (outHalf u) b)) (site .n) ∙ sum-ext _ _ (site .n) (λ v q. omega (arith, ap oneIf (step-to-out u v)))
+
+-- ---- the formula
+
+module _ (site : Site) (S-in : site .S < site .n) (T-in : site .T < site .n) (differ : site .S ≡ site .T → ⊥) (even : Even (site .table) (site .n)) where
+  -- every radio but S and T has a step inside
+  steps-inside : count (passes site) (site .n) + 2 ≡ site .n
+  unfolding passes
+  steps-inside = omega (
+    arith,
+    sum-update inner other-than-S (site .T) (site .n) T-in (λ v p ne. rw (lt-ltb v (site .n) p, ne-eqb v (site .T) ne, and-true)),
+    inner-T,
+    ap oneIf (ap not (ne-eqb (site .T) (site .S) (λ e. differ (sym e)))),
+    sum-update other-than-S (λ v. 1) (site .S) (site .n) S-in (λ v p ne. rw (ne-eqb v (site .S) ne)),
+    ap oneIf (ap not (eq-eqb (site .S) (site .S) refl)),
+    sum-one (site .n),
+  )
+    where
+      inner : ℕ → ℕ
+      inner v = oneIf (passes site v)
+
+      other-than-S : ℕ → ℕ
+      other-than-S v = oneIf (not (eqb v (site .S)))
+
+      inner-T : inner (site .T) ≡ 0
+      inner-T = rw (eq-eqb (site .T) (site .T) refl, and-false)
+
+  -- each link has a step each way, but for those from T and those into S
+  steps-over : sum (over site) (site .n) + degree (site .table) (site .n) (site .S) + degree (site .table) (site .n) (site .T) ≡ sum (degree (site .table) (site .n)) (site .n) + oneIf (link site (site .S) (site .T))
+  steps-over = omega (
+    arith,
+    sum-update (λ u. over site u + to-S u) (degree (site .table) (site .n)) (site .T) (site .n) T-in row,
+    sum-add (over site) to-S (site .n),
+    sum-ext _ (λ v. 0) (site .n) (λ v p. ap oneIf (none-from-T site v)) ∙ sum-zero (site .n),
+    sum-ext to-S (λ u. oneIf (link site (site .S) u)) (site .n) (λ u p. ap oneIf (even u (site .S))),
+    ap oneIf (even (site .T) (site .S)),
+  )
+    where
+      to-S : ℕ → ℕ
+      to-S u = oneIf (link site u (site .S))
+
+      row : (u : ℕ) → u < site .n → (u ≡ site .T → ⊥) → over site u + to-S u ≡ degree (site .table) (site .n) u
+      row u p nt = omega (
+        arith,
+        sum-update (λ v. oneIf (step site (outHalf u) (inHalf v))) (λ v. oneIf (link site u v)) (site .S) (site .n) S-in (λ v q ns. ap oneIf (step-link site u v p q nt ns)),
+        ap oneIf (none-into-S site u),
+      )
+
+  -- document 01's formula with nothing taken away
+  pub steps-and-degrees : A site + degree (site .table) (site .n) (site .S) + degree (site .table) (site .n) (site .T) + 2 ≡ 2 * links (site .table) (site .n) + oneIf (link site (site .S) (site .T)) + site .n
+  unfolding A
+  steps-and-degrees = omega (
+    arith,
+    sum-pairs (λ a. count (step site a) (2 * site .n)) (site .n),
+    sum-ext (λ v. count (step site (inHalf v)) (2 * site .n) + count (step site (outHalf v)) (2 * site .n)) (λ v. oneIf (passes site v) + over site v) (site .n) (λ v p. omega (arith, row-in site v p, row-out site v)),
+    sum-add (λ v. oneIf (passes site v)) (over site) (site .n),
+    steps-inside,
+    steps-over,
+    degrees-twice-links (site .table) (site .n) even,
+  )
+
+  -- deg S + deg T is at most 2m, so that the formula never takes away too much
+  pub two-degrees : degree (site .table) (site .n) (site .S) + degree (site .table) (site .n) (site .T) ≤ 2 * links (site .table) (site .n)
+  two-degrees = omega (arith, sum-above-two (degree (site .table) (site .n)) (site .S) (site .T) (site .n) S-in T-in differ, degrees-twice-links (site .table) (site .n) even)
+
+  -- A = 2m − deg S − deg T + (1 if S and T are linked, else 0) + n − 2
+  pub formula : A site ≡ 2 * links (site .table) (site .n) - degree (site .table) (site .n) (site .S) - degree (site .table) (site .n) (site .T) + oneIf (link site (site .S) (site .T)) + site .n - 2
+  formula = omega (arith, steps-and-degrees, two-degrees)
+
+  -- there are at most 2m + n steps
+  pub few-steps : A site ≤ 2 * links (site .table) (site .n) + site .n
+  few-steps = omega (arith, steps-and-degrees, one-at-most (link site (site .S) (site .T)))
