@@ -1,10 +1,46 @@
--- Tests and the facts that they tell: a test holds exactly if its fact does. Assumes nothing.
+-- The laws of tests: true and false, and, or; and the facts that tests tell. Assumes nothing.
 use mathlib.Core.Path.{_≡_, refl}
-use mathlib.Core.Bool.{Bool, true, false, not, _||_, _&&_, false≢true}
+use mathlib.Core.Bool.{Bool, true, false, not, _||_, _&&_, true≢false, false≢true}
 use mathlib.Core.Logic.{_⊎_, inl, inr, _↔_}
 use Prim.Native.Nat.{ℕ, _≤_, _<_}
 use lib.Dec.{eqb, ltb}
 use borrow.Author.Tests.{eqb-true, eq-eqb, ltb-true, ltb-false, lt-ltb, le-ltb, not-true}
+
+-- ---- true and false
+
+pub clash {ℓ} : {X : Type ℓ} {b : Bool} → b ≡ true → b ≡ false → X
+clash {b = true} p q = absurd (true≢false q)
+clash {b = false} p q = absurd (false≢true p)
+
+pub not-true→false : (b : Bool) → (b ≡ true → ⊥) → b ≡ false
+not-true→false true h = absurd (h refl)
+not-true→false false h = refl
+
+pub or-left : (a b : Bool) → a ≡ true → (a || b) ≡ true
+or-left true b h = refl
+or-left false b h = absurd (false≢true h)
+
+pub or-right : (a b : Bool) → b ≡ true → (a || b) ≡ true
+or-right true b h = refl
+or-right false b h = h
+
+pub or-cases : (a b : Bool) → (a || b) ≡ true → (a ≡ true) ⊎ (b ≡ true)
+or-cases true b h = inl refl
+or-cases false b h = inr h
+
+pub and-left : (a b : Bool) → (a && b) ≡ true → a ≡ true
+and-left true b h = refl
+and-left false b h = h
+
+pub and-right : (a b : Bool) → (a && b) ≡ true → b ≡ true
+and-right true b h = h
+and-right false b h = absurd (false≢true h)
+
+pub and-both : (a b : Bool) → a ≡ true → b ≡ true → (a && b) ≡ true
+and-both true b p q = q
+and-both false b p q = absurd (false≢true p)
+
+-- ---- tests and facts
 
 -- the test b holds exactly if P does
 abbrev pub Tells : Bool → Type 0 → Type 0

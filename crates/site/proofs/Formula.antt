@@ -8,6 +8,7 @@ use lib.Dec.{eqb, ltb}
 use borrow.Author.Tests.{eq-eqb, ne-eqb, lt-ltb, ltb-true, ltb-false}
 use Rattle.basics.specs.Counting.{oneIf, sum, count}
 use Rattle.basics.proofs.Counting.{sum-ext, sum-update, sum-add, sum-zero, sum-one, sum-swap, sum-pairs, sum-above-two, one-at-most, count-only}
+use Rattle.site.proofs.Steps.{radio-of-out, step-inside, step-to-out, step-over, none-from-T, none-into-S, step-link}
 use Rattle.site.specs.Map.{Site, linked, degree, links, link, inHalf, outHalf, radioOf, isOut, exists, passes, insideStep, linkStep, step, A}
 
 -- the table is symmetric: u is linked to v if v is linked to u
@@ -47,64 +48,12 @@ degrees-twice-links table n even = omega (
     row : (u : ℕ) → degree table n u ≡ sum (up u) n + sum (λ v. up v u) n
     row u = sum-ext (λ v. oneIf (linked table n u v)) (λ v. up u v + up v u) n (λ v p. one-is-lower table n u v ∙ rw (even u v)) ∙ sum-add (up u) (λ v. up v u) n
 
--- ---- the steps between halves
-
--- 2v is the in half of v and 2v+1 its out half
-in-is-not-out : (v : ℕ) → isOut (inHalf v) ≡ false
-in-is-not-out v = ne-eqb (2 * v % 2) 1 (omega arith)
-
-out-is-out : (v : ℕ) → isOut (outHalf v) ≡ true
-out-is-out v = eq-eqb ((2 * v + 1) % 2) 1 (omega arith)
-
-radio-of-in : (v : ℕ) → radioOf (inHalf v) ≡ v
-radio-of-in v = omega arith
-
-radio-of-out : (v : ℕ) → radioOf (outHalf v) ≡ v
-radio-of-out v = omega arith
+-- ---- the rows of steps
 
 module _ (site : Site) where
-  -- from an in half there is the step inside, where the radio may stand inside a path, and no other
-  step-inside : (v b : ℕ) → step site (inHalf v) b ≡ (eqb b (outHalf v) && passes site v)
-  unfolding step insideStep linkStep
-  step-inside v b = rw (in-is-not-out v, radio-of-in v, or-false)
-
-  -- no step leads from an out half to an out half
-  step-to-out : (u v : ℕ) → step site (outHalf u) (outHalf v) ≡ false
-  unfolding step insideStep linkStep
-  step-to-out u v = rw (out-is-out u, out-is-out v)
-
-  -- from an out half to an in half there is a step for each link whose halves exist
-  step-over : (u v : ℕ) → step site (outHalf u) (inHalf v) ≡ (link site u v && exists site (outHalf u) && exists site (inHalf v))
-  unfolding step insideStep linkStep
-  step-over u v = rw (out-is-out u, in-is-not-out v, radio-of-out u, radio-of-in v)
-
-  -- T has no out half
-  none-from-T : (v : ℕ) → step site (outHalf (site .T)) (inHalf v) ≡ false
-  unfolding exists
-  none-from-T v = rw (step-over (site .T) v, eq-eqb (outHalf (site .T)) (outHalf (site .T)) refl, and-false, and-false)
-
-  -- S has no in half
-  none-into-S : (u : ℕ) → step site (outHalf u) (inHalf (site .S)) ≡ false
-  unfolding exists
-  none-into-S u = rw (step-over u (site .S), eq-eqb (inHalf (site .S)) (inHalf (site .S)) refl, and-false, and-false)
-
-  -- every radio but T has an out half
-  out-exists : (u : ℕ) → u < site .n → (u ≡ site .T → ⊥) → exists site (outHalf u) ≡ true
-  unfolding exists
-  out-exists u p nt = rw (radio-of-out u, lt-ltb u (site .n) p, ne-eqb (outHalf u) (inHalf (site .S)) (omega arith), ne-eqb (outHalf u) (outHalf (site .T)) (omega arith))
-
-  -- every radio but S has an in half
-  in-exists : (v : ℕ) → v < site .n → (v ≡ site .S → ⊥) → exists site (inHalf v) ≡ true
-  unfolding exists
-  in-exists v p ns = rw (radio-of-in v, lt-ltb v (site .n) p, ne-eqb (inHalf v) (inHalf (site .S)) (omega arith), ne-eqb (inHalf v) (outHalf (site .T)) (omega arith))
-
-  -- every link has its step but from T and into S
-  step-link : (u v : ℕ) → u < site .n → v < site .n → (u ≡ site .T → ⊥) → (v ≡ site .S → ⊥) → step site (outHalf u) (inHalf v) ≡ link site u v
-  step-link u v p q nt ns = rw (step-over u v, out-exists u p nt, in-exists v q ns) (simp and-true)
-
   -- from the in half of v leads one step or none
   row-in : (v : ℕ) → v < site .n → count (step site (inHalf v)) (2 * site .n) ≡ oneIf (passes site v)
-  row-in v p = sum-ext _ (λ b. oneIf (eqb b (outHalf v) && passes site v)) (2 * site .n) (λ b q. ap oneIf (step-inside v b)) ∙ count-only (passes site v) (outHalf v) (2 * site .n) (omega arith)
+  row-in v p = sum-ext _ (λ b. oneIf (eqb b (outHalf v) && passes site v)) (2 * site .n) (λ b q. ap oneIf (step-inside site v b)) ∙ count-only (passes site v) (outHalf v) (2 * site .n) (omega arith)
 
   -- how many steps lead from the out half of u to in halves
   abbrev over : ℕ → ℕ
@@ -112,7 +61,7 @@ module _ (site : Site) where
 
   -- and there are no others from it
   row-out : (u : ℕ) → count (step site (outHalf u)) (2 * site .n) ≡ over u
-  row-out u = sum-pairs (λ b. oneIf (step site (outHalf u) b)) (site .n) ∙ sum-ext _ _ (site .n) (λ v q. omega (arith, ap oneIf (step-to-out u v)))
+  row-out u = sum-pairs (λ b. oneIf (step site (outHalf u) b)) (site .n) ∙ sum-ext _ _ (site .n) (λ v q. omega (arith, ap oneIf (step-to-out site u v)))
 
 -- ---- the formula
 

@@ -1,2 +1,4 @@
 pub mod Exactly
 pub mod Formula
+pub mod Steps
+pub mod Valid

@@ -1,0 +1,120 @@
+-- The steps between halves, by cases. Assumes nothing.
+use mathlib.Core.Path.{_≡_, refl, sym, _∙_}
+use mathlib.Core.Bool.{Bool, true, false, not, _&&_, and-true, and-false, or-false}
+use mathlib.Core.Logic.{_⊎_, inl, inr}
+use Prim.Native.Nat.{ℕ, _+_, _*_, _%_, _<_}
+use native.Mathlib.Omega.{arith}
+use lib.Dec.{eqb, ltb}
+use borrow.Author.Tests.{eqb-true, eqb-false, eq-eqb, ne-eqb, lt-ltb, ltb-true, not-true}
+use Rattle.basics.proofs.Bools.{or-cases, and-left, and-right, and-both}
+use Rattle.site.specs.Map.{Site, linked, link, inHalf, outHalf, radioOf, isOut, exists, passes, insideStep, linkStep, step}
+
+-- ---- the tests, half by half
+
+-- 2v is the in half of v and 2v+1 its out half
+pub in-is-not-out : (v : ℕ) → isOut (inHalf v) ≡ false
+in-is-not-out v = ne-eqb (2 * v % 2) 1 (omega arith)
+
+pub out-is-out : (v : ℕ) → isOut (outHalf v) ≡ true
+out-is-out v = eq-eqb ((2 * v + 1) % 2) 1 (omega arith)
+
+pub radio-of-in : (v : ℕ) → radioOf (inHalf v) ≡ v
+radio-of-in v = omega arith
+
+pub radio-of-out : (v : ℕ) → radioOf (outHalf v) ≡ v
+radio-of-out v = omega arith
+
+module _ (site : Site) where
+  -- from an in half there is the step inside, where the radio may stand inside a path, and no other
+  pub step-inside : (v b : ℕ) → step site (inHalf v) b ≡ (eqb b (outHalf v) && passes site v)
+  unfolding step insideStep linkStep
+  step-inside v b = rw (in-is-not-out v, radio-of-in v, or-false)
+
+  -- no step leads from an out half to an out half
+  pub step-to-out : (u v : ℕ) → step site (outHalf u) (outHalf v) ≡ false
+  unfolding step insideStep linkStep
+  step-to-out u v = rw (out-is-out u, out-is-out v)
+
+  -- from an out half to an in half there is a step for each link whose halves exist
+  pub step-over : (u v : ℕ) → step site (outHalf u) (inHalf v) ≡ (link site u v && exists site (outHalf u) && exists site (inHalf v))
+  unfolding step insideStep linkStep
+  step-over u v = rw (out-is-out u, in-is-not-out v, radio-of-out u, radio-of-in v)
+
+  -- T has no out half
+  pub none-from-T : (v : ℕ) → step site (outHalf (site .T)) (inHalf v) ≡ false
+  unfolding exists
+  none-from-T v = rw (step-over (site .T) v, eq-eqb (outHalf (site .T)) (outHalf (site .T)) refl, and-false, and-false)
+
+  -- S has no in half
+  pub none-into-S : (u : ℕ) → step site (outHalf u) (inHalf (site .S)) ≡ false
+  unfolding exists
+  none-into-S u = rw (step-over u (site .S), eq-eqb (inHalf (site .S)) (inHalf (site .S)) refl, and-false, and-false)
+
+  -- every radio but T has an out half
+  out-exists : (u : ℕ) → u < site .n → (u ≡ site .T → ⊥) → exists site (outHalf u) ≡ true
+  unfolding exists
+  out-exists u p nt = rw (radio-of-out u, lt-ltb u (site .n) p, ne-eqb (outHalf u) (inHalf (site .S)) (omega arith), ne-eqb (outHalf u) (outHalf (site .T)) (omega arith))
+
+  -- every radio but S has an in half
+  in-exists : (v : ℕ) → v < site .n → (v ≡ site .S → ⊥) → exists site (inHalf v) ≡ true
+  unfolding exists
+  in-exists v p ns = rw (radio-of-in v, lt-ltb v (site .n) p, ne-eqb (inHalf v) (inHalf (site .S)) (omega arith), ne-eqb (inHalf v) (outHalf (site .T)) (omega arith))
+
+  -- every link has its step but from T and into S
+  pub step-link : (u v : ℕ) → u < site .n → v < site .n → (u ≡ site .T → ⊥) → (v ≡ site .S → ⊥) → step site (outHalf u) (inHalf v) ≡ link site u v
+  step-link u v p q nt ns = rw (step-over u v, out-exists u p nt, in-exists v q ns) (simp and-true)
+
+-- ---- what a link and a step say
+
+pub record Linked (site : Site) (u v : ℕ) : Type 0 where
+  pub from-below : u < site .n
+  pub to-below : v < site .n
+  pub differ : u ≡ v → ⊥
+
+pub linked-says : (site : Site) (u v : ℕ) → link site u v ≡ true → Linked site u v
+unfolding linked
+linked-says site u v e =
+    let parts : (ltb u (site .n) ≡ true) × (ltb v (site .n) ≡ true) × (not (eqb u v) ≡ true) = search (and-left, and-right) in
+    record { from-below = ltb-true _ _ (parts .0); to-below = ltb-true _ _ (parts .1); differ = eqb-false _ _ (not-true _ (parts .2)) }
+
+-- a step leads inside a radio, or over a link
+pub data Step (site : Site) (a b : ℕ) : Type 0 where
+  inside : (v : ℕ) → a ≡ inHalf v → b ≡ outHalf v → v < site .n → (v ≡ site .S → ⊥) → (v ≡ site .T → ⊥) → Step site a b
+  over : (u v : ℕ) → a ≡ outHalf u → b ≡ inHalf v → link site u v ≡ true → (u ≡ site .T → ⊥) → (v ≡ site .S → ⊥) → Step site a b
+
+inside-of : (site : Site) (a b : ℕ) → insideStep site a b ≡ true → Step site a b
+unfolding insideStep passes
+inside-of site a b w =
+    let halves : (not (isOut a) ≡ true) × (eqb b (a + 1) ≡ true) = search (and-left, and-right) in
+    let pass : (ltb (radioOf a) (site .n) ≡ true) × (not (eqb (radioOf a) (site .S)) ≡ true) × (not (eqb (radioOf a) (site .T)) ≡ true) = search (and-left, and-right) in
+    let low : a % 2 ≡ 1 → ⊥ = eqb-false _ _ (not-true _ (halves .0)) in
+    let next : b ≡ a + 1 = eqb-true _ _ (halves .1) in
+    inside (radioOf a) (omega arith) (omega arith) (ltb-true _ _ (pass .0)) (eqb-false _ _ (not-true _ (pass .1))) (eqb-false _ _ (not-true _ (pass .2)))
+
+over-of : (site : Site) (a b : ℕ) → linkStep site a b ≡ true → Step site a b
+unfolding linkStep exists
+over-of site a b w =
+    let halves : (isOut a ≡ true) × (not (isOut b) ≡ true) × (link site (radioOf a) (radioOf b) ≡ true) = search (and-left, and-right) in
+    let there : (not (eqb a (outHalf (site .T))) ≡ true) × (not (eqb b (inHalf (site .S))) ≡ true) = search (and-left, and-right) in
+    let high : a % 2 ≡ 1 = eqb-true _ _ (halves .0) in
+    let low : b % 2 ≡ 1 → ⊥ = eqb-false _ _ (not-true _ (halves .1)) in
+    let not-T : a ≡ outHalf (site .T) → ⊥ = eqb-false _ _ (not-true _ (there .0)) in
+    let not-S : b ≡ inHalf (site .S) → ⊥ = eqb-false _ _ (not-true _ (there .1)) in
+    over (radioOf a) (radioOf b) (omega arith) (omega arith) (halves .2) (λ e. not-T (omega arith)) (λ e. not-S (omega arith))
+
+pub step-of : (site : Site) (a b : ℕ) → step site a b ≡ true → Step site a b
+unfolding step
+step-of site a b e = go (or-cases _ _ e)
+  where
+    go : (insideStep site a b ≡ true) ⊎ (linkStep site a b ≡ true) → Step site a b
+    go (inl w) = inside-of site a b w
+    go (inr w) = over-of site a b w
+
+-- ---- the steps that there are
+
+pub inside-step : (site : Site) (v : ℕ) → v < site .n → (v ≡ site .S → ⊥) → (v ≡ site .T → ⊥) → step site (inHalf v) (outHalf v) ≡ true
+unfolding passes
+inside-step site v p ns nt = rw (step-inside site v (outHalf v), eq-eqb (outHalf v) (outHalf v) refl, lt-ltb v (site .n) p, ne-eqb v (site .S) ns, ne-eqb v (site .T) nt)
+
+pub over-step : (site : Site) (u v : ℕ) → link site u v ≡ true → (u ≡ site .T → ⊥) → (v ≡ site .S → ⊥) → step site (outHalf u) (inHalf v) ≡ true
+over-step site u v e nt ns = let w = linked-says site u v e in step-link site u v (w .from-below) (w .to-below) nt ns ∙ e
