@@ -9,7 +9,7 @@ use lib.Dec.{eqb}
 use lib.ListN.{length}
 use borrow.Author.Tests.{eqb-true, eq-eqb, ne-eqb}
 use Rattle.basics.specs.Lists.{among, Different}
-use Rattle.basics.proofs.Bools.{or-left, or-right, or-cases, clash, not-true→false}
+use Rattle.basics.proofs.Bools.{or-left, or-right, or-cases, clash}
 
 -- ---- membership
 

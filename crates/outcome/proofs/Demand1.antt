@@ -1,12 +1,12 @@
 -- Demand 1 holds for every call. Assumes nothing.
-use mathlib.Core.Path.{_≡_, refl}
+use mathlib.Core.Path.{_≡_}
 use mathlib.Core.Bool.{false}
 use mathlib.Core.List.{[]}
 use lib.Dec.{eqb}
 use lib.ListN.{replicate}
 use native.Mathlib.Nat.{sub-zero}
 use borrow.Author.Tests.{ne-eqb}
-use Rattle.site.specs.Refusals.{Call, verdict, number, placeOf}
+use Rattle.site.specs.Refusals.{Call, verdict, number}
 use Rattle.site.proofs.Exactly as exactly
 use Rattle.outcome.specs.Leaves.{zerosAfter, outcome, logLeft, pathsLeft, cutLeft}
 use Rattle.outcome.specs.Demand1.{NothingLeft, Demand1}

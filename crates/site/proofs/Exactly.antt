@@ -1,19 +1,18 @@
 -- Demand 1 over the refusals: each number is given exactly when its own condition holds and none before it does. Assumes nothing.
-use mathlib.Core.Path.{_≡_, refl, sym, ap, _∙_}
-use mathlib.Core.Bool.{Bool, true, false, not, _&&_, _||_, cond, true≢false, false≢true}
+use mathlib.Core.Path.{_≡_, refl, sym, _∙_}
+use mathlib.Core.Bool.{Bool, true, false, not, _||_, cond, true≢false}
 use mathlib.Core.List.{List, [], _∷_}
 use mathlib.Core.Logic.{_⊎_, inl, inr, _↔_}
-use Prim.Native.Nat.{ℕ, zero, suc, _+_, _-_, _*_, _/_, _%_, _<_, _≤_}
+use Prim.Native.Nat.{ℕ, zero, suc, _+_, _*_, _/_, _%_, _<_}
 use native.Mathlib.Omega.{arith}
 use native.Mathlib.Nat.{div-add-mod'}
-use native.Mathlib.Decide.{ℕ-discrete}
 use lib.Dec.{eqb, ltb}
 use lib.ListN.{length, getD}
 use borrow.Author.Tests.{ltb-true, ltb-false}
 use Rattle.basics.specs.Counting.{First as Counted}
 use Rattle.basics.proofs.Bools.{Tells, tells-below, tells-not-below, tells-equal, tells-or, tells-and, tells-not, tells-same}
 use Rattle.basics.proofs.Counting.{first-from}
-use Rattle.site.specs.Map.{Site, links, A}
+use Rattle.site.specs.Map.{links}
 use Rattle.site.specs.Refusals.{Call, bad, badAt, badCell, firstBad, finding, logNeeds, pathsNeed, refuse, passed, verdict, number, placeOf}
 use Rattle.site.specs.Conditions.{Fault, no-bit, diagonal, mirror, FirstFault, conditions, Holds, First}
 use Rattle.site.specs.declared.Finding.the-variants.{Sound, Bad}

@@ -1,15 +1,15 @@
 -- The number of steps is the A that document 01, "The map", writes out. Assumes nothing.
 use mathlib.Core.Path.{_≡_, refl, sym, ap, _∙_}
 use mathlib.Core.List.{List}
-use mathlib.Core.Bool.{Bool, true, false, not, _&&_, and-true, and-false, or-false}
-use Prim.Native.Nat.{ℕ, _+_, _*_, _-_, _%_, _≤_, _<_}
+use mathlib.Core.Bool.{Bool, true, false, not, _&&_, and-true, and-false}
+use Prim.Native.Nat.{ℕ, _+_, _*_, _-_, _≤_, _<_}
 use native.Mathlib.Omega.{arith}
 use lib.Dec.{eqb, ltb}
 use borrow.Author.Tests.{eq-eqb, ne-eqb, lt-ltb, ltb-true, ltb-false}
 use Rattle.basics.specs.Counting.{oneIf, sum, count}
 use Rattle.basics.proofs.Counting.{sum-ext, sum-update, sum-add, sum-zero, sum-one, sum-swap, sum-pairs, sum-above-two, one-at-most, count-only}
-use Rattle.site.proofs.Steps.{radio-of-out, step-inside, step-to-out, step-over, none-from-T, none-into-S, step-link}
-use Rattle.site.specs.Map.{Site, linked, degree, links, link, inHalf, outHalf, radioOf, isOut, exists, passes, insideStep, linkStep, step, A}
+use Rattle.site.proofs.Steps.{step-inside, step-to-out, none-from-T, none-into-S, step-link}
+use Rattle.site.specs.Map.{Site, linked, degree, links, link, inHalf, outHalf, passes, step, A}
 
 -- the table is symmetric: u is linked to v if v is linked to u
 abbrev pub Even : List ℕ → ℕ → Type 0

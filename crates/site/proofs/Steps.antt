@@ -1,12 +1,12 @@
 -- The steps between halves, by cases. Assumes nothing.
-use mathlib.Core.Path.{_≡_, refl, sym, _∙_}
-use mathlib.Core.Bool.{Bool, true, false, not, _&&_, and-true, and-false, or-false}
+use mathlib.Core.Path.{_≡_, refl, _∙_}
+use mathlib.Core.Bool.{true, false, not, _&&_, and-true, and-false, or-false}
 use mathlib.Core.Logic.{_⊎_, inl, inr}
 use Prim.Native.Nat.{ℕ, _+_, _*_, _%_, _<_}
 use native.Mathlib.Omega.{arith}
 use lib.Dec.{eqb, ltb}
 use borrow.Author.Tests.{eqb-true, eqb-false, eq-eqb, ne-eqb, lt-ltb, ltb-true, not-true}
-use Rattle.basics.proofs.Bools.{or-cases, and-left, and-right, and-both}
+use Rattle.basics.proofs.Bools.{or-cases, and-left, and-right}
 use Rattle.site.specs.Map.{Site, linked, link, inHalf, outHalf, radioOf, isOut, exists, passes, insideStep, linkStep, step}
 
 -- ---- the tests, half by half
