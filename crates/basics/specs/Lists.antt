@@ -24,3 +24,10 @@ All P (x ∷ list) = P x × All P list
 abbrev pub AnyTwo {ℓ} : {A : Type ℓ} → (A → A → Type 0) → List A → Type 0
 AnyTwo R [] = Unit
 AnyTwo R (x ∷ list) = All (R x) list × AnyTwo R list
+
+-- two lists of one length, which stand in the relation place by place
+abbrev pub InOrder {ℓ κ} : {A : Type ℓ} {B : Type κ} → (A → B → Type 0) → List A → List B → Type 0
+InOrder R [] [] = Unit
+InOrder R [] (y ∷ others) = ⊥
+InOrder R (x ∷ list) [] = ⊥
+InOrder R (x ∷ list) (y ∷ others) = R x y × InOrder R list others

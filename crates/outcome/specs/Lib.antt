@@ -1,2 +1,4 @@
 pub mod Leaves
 pub mod Demand1
+pub mod Demand2
+pub mod Demand3
