@@ -7,6 +7,7 @@ use native.Mathlib.Decide.{ℕ-discrete}
 use lib.Dec.{eqb}
 use borrow.Author.Tests.{eq-eqb, ne-eqb}
 use Rattle.basics.specs.Counting.{oneIf, sum, count, firstOf, firstFrom, First}
+use Rattle.basics.proofs.Bools.{not-true→false}
 
 -- ---- sums
 
@@ -116,3 +117,52 @@ first-of test i (suc f) limit e = go (test i) refl (first-of test (suc i) f limi
 -- firstFrom finds the first
 pub first-from : (test : ℕ → Bool) (i limit : ℕ) → i ≤ limit → First test i limit (firstFrom test i limit)
 first-from test i limit p = first-of test i (limit - i) limit (omega arith)
+
+-- ---- sums and counts compared
+
+-- no more at each place, no more in all
+pub sum-le : (f g : ℕ → ℕ) (n : ℕ) → ((x : ℕ) → x < n → f x ≤ g x) → sum f n ≤ sum g n
+unfolding sum
+sum-le f g zero h = omega arith
+sum-le f g (suc n) h = omega (arith, h n (omega arith), sum-le f g n (λ x p. h x (omega arith)))
+
+-- a test that passes only where another does counts for no more
+pub one-le : (a b : Bool) → (a ≡ true → b ≡ true) → oneIf a ≤ oneIf b
+one-le true b h = omega (arith, ap oneIf (h refl))
+one-le false b h = omega arith
+
+-- one that passes is counted
+pub some-counts : (test : ℕ → Bool) (n a : ℕ) → a < n → test a ≡ true → 0 < count test n
+some-counts test n a p h = omega (arith, sum-above (λ x. oneIf (test x)) a n p, ap oneIf h)
+
+-- where none passes none is counted
+pub none-counts : (test : ℕ → Bool) (n : ℕ) → ((a : ℕ) → a < n → test a ≡ true → ⊥) → count test n ≡ 0
+none-counts test n h = sum-ext (λ x. oneIf (test x)) (λ x. 0) n (λ x p. ap oneIf (not-true→false (test x) (h x p))) ∙ sum-zero n
+
+-- what is counted can be found
+pub counted : (test : ℕ → Bool) (n : ℕ) → 0 < count test n → (a : ℕ) × (test a ≡ true)
+unfolding sum
+counted test zero p = absurd (omega arith)
+counted test (suc n) p = go (test n) refl p (counted test n)
+  where
+    go : (b : Bool) → test n ≡ b → 0 < oneIf b + count test n → (0 < count test n → (a : ℕ) × (test a ≡ true)) → (a : ℕ) × (test a ≡ true)
+    go true e q ih = (n, e)
+    go false e q ih = ih (omega arith)
+
+-- if at most one is counted, two that pass are one
+pub counted-once : (test : ℕ → Bool) (n a b : ℕ) → count test n ≤ 1 → a < n → b < n → test a ≡ true → test b ≡ true → a ≡ b
+counted-once test n a b c p q h k = go (ℕ-discrete a b)
+  where
+    go : Dec (a ≡ b) → a ≡ b
+    go (yes e) = e
+    go (no e) = absurd (omega (arith, sum-above-two (λ x. oneIf (test x)) a b n p q e, ap oneIf h, ap oneIf k))
+
+-- if all that pass are one, at most one is counted
+pub once-counts : (test : ℕ → Bool) (n : ℕ) → ((a b : ℕ) → test a ≡ true → test b ≡ true → a ≡ b) → count test n ≤ 1
+unfolding sum
+once-counts test zero h = omega arith
+once-counts test (suc n) h = go (test n) refl (once-counts test n h)
+  where
+    go : (b : Bool) → test n ≡ b → count test n ≤ 1 → oneIf b + count test n ≤ 1
+    go true e ih = omega (arith, none-counts test n (λ a p t. omega (arith, h a n t e)))
+    go false e ih = omega arith

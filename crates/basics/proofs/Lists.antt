@@ -3,13 +3,15 @@ use mathlib.Core.Path.{_≡_, refl, sym, ap, _∙_}
 use mathlib.Core.Bool.{Bool, true, false, _||_, cond, false≢true}
 use mathlib.Core.List.{List, [], _∷_}
 use mathlib.Core.Logic.{_⊎_, inl, inr}
-use Prim.Native.Nat.{ℕ, suc, _≤_}
+use Prim.Native.Nat.{ℕ, suc, _≤_, _<_}
 use native.Mathlib.Omega.{arith}
 use lib.Dec.{eqb}
 use lib.ListN.{length}
 use borrow.Author.Tests.{eqb-true, eq-eqb, ne-eqb}
+use Rattle.basics.specs.Counting.{oneIf, count}
 use Rattle.basics.specs.Lists.{among, Different}
-use Rattle.basics.proofs.Bools.{or-left, or-right, or-cases, clash}
+use Rattle.basics.proofs.Bools.{or-left, or-right, or-cases, clash, not-true→false}
+use Rattle.basics.proofs.Counting.{sum-one, sum-update, sum-le, one-le, none-counts}
 
 -- ---- membership
 
@@ -84,3 +86,34 @@ pigeonhole (x ∷ list) other d s = omega (arith, pigeonhole list (erase x other
   where
     kept : list ⊆ erase x other
     kept y h = erase-keeps x y other (λ (e : y ≡ x). clash (rw e at h) (d .0)) (s y (among-there y x list h))
+
+-- ---- not in a list
+
+-- what is not in a list is not its first and not in the rest
+pub among-neither : (x y : ℕ) (list : List ℕ) → among x (y ∷ list) ≡ false → (x ≡ y → ⊥) × (among x list ≡ false)
+among-neither x y list h = (λ (e : x ≡ y). clash (rw e (among-here y list)) h, not-true→false _ (λ t. clash (among-there x y list t) h))
+
+-- ---- lists counted
+
+-- different numbers below n, counted
+pub length-counts : (list : List ℕ) (n : ℕ) → Different list → ((x : ℕ) → among x list ≡ true → x < n) → count (λ x. among x list) n ≡ length list
+length-counts [] n d below = none-counts (λ x. among x []) n (λ x p. among-nil x)
+length-counts (y ∷ list) n d below = omega (
+  arith,
+  length-counts list n (d .1) (λ x h. below x (among-there x y list h)),
+  sum-update (λ x. oneIf (among x (y ∷ list))) (λ x. oneIf (among x list)) y n (below y (among-here y list)) (λ x p ne. ap oneIf (among-other x y list ne)),
+  ap oneIf (among-here y list),
+  ap oneIf (d .0),
+)
+
+-- different numbers below n that all pass a test are no more than those that pass it
+pub different-pass : (list : List ℕ) (test : ℕ → Bool) (n : ℕ) → Different list → ((x : ℕ) → among x list ≡ true → (x < n) × (test x ≡ true)) → length list ≤ count test n
+different-pass list test n d each = omega (
+  arith,
+  length-counts list n d (λ x h. each x h .0),
+  sum-le (λ x. oneIf (among x list)) (λ x. oneIf (test x)) n (λ x p. one-le (among x list) (test x) (λ h. each x h .1)),
+)
+
+-- different numbers below n are at most n
+pub different-below : (list : List ℕ) (n : ℕ) → Different list → ((x : ℕ) → among x list ≡ true → x < n) → length list ≤ n
+different-below list n d below = omega (arith, different-pass list (λ x. true) n d (λ x h. (below x h, refl)), sum-one n)

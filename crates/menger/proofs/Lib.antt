@@ -1,2 +1,5 @@
 pub mod Network
+pub mod Walks
+pub mod Flow
+pub mod Units
 pub mod Trail

@@ -33,7 +33,7 @@ isReply Done = false
 abbrev pub sentIn : (Kind → Bool) → ℕ → ℕ → ℕ → List Entry → ℕ
 sentIn kinds round a b [] = 0
 sentIn kinds round a b (e ∷ log) =
-    oneIf (kinds (e .message .kind) && eqb (e .round) round && eqb (e .message .from) a && eqb (e .message .to) b) + sentIn kinds round a b log
+    oneIf (kinds (e .message .kind) && eqb round (e .round) && (eqb a (e .message .from) && eqb b (e .message .to))) + sentIn kinds round a b log
 
 abbrev pub tokensIn : ℕ → ℕ → ℕ → List Entry → ℕ
 tokensIn round a b log = sentIn isToken round a b log

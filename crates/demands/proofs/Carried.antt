@@ -1,0 +1,159 @@
+-- Rule 7: S sends DONE along each trail of marked steps, each DONE comes to T, and the run is over. Assumes nothing.
+use mathlib.Core.Path.{_≡_, refl, sym, ap, _∙_}
+use mathlib.Core.Bool.{Bool, true, false, cond}
+use mathlib.Core.List.{List, [], _∷_, _++_, map}
+use mathlib.Core.Logic.{_⊎_, inl, inr}
+use Prim.Native.Nat.{ℕ, zero, suc, _+_, _-_, _*_, _≤_, _<_}
+use native.Mathlib.Nat.{sub-eq-zero-of-le}
+use native.Mathlib.Omega.{arith}
+use lib.Dec.{eqb, ltb}
+use borrow.Author.Tests.{eqb-true, eqb-false, eq-eqb, lt-ltb, le-ltb}
+use Rattle.basics.specs.Counting.{firstOf}
+use Rattle.site.specs.Map.{Site, inHalf, outHalf, radioOf, isOut}
+use Rattle.tokens.specs.declared.Kind.the-variants.{Done}
+use Rattle.tokens.specs.declared.Message.{Message}
+use Rattle.tokens.specs.Rules.{Marks, Notes, State, carrying, sends, over, message, nextMarked, passOn, release, carry, innerStep}
+use Rattle.tokens.specs.Run.{Entry, Walked, walked, notesOf}
+use Rattle.menger.proofs.Trail.{follow}
+use Rattle.routes.proofs.Trails.{onward, trailOf, radiosOf, pathOf, passing, starts}
+use Rattle.rounds.proofs.Shows.{Leads, inRound}
+
+-- ---- two logs, one after the other
+
+pub leads-on : (site : Site) (k : ℕ) (state middle end : State) (log later : List Entry) → Leads site k state log middle → Leads site k middle later end → Leads site k state (log ++ later) end
+leads-on site k state middle end [] later first second = rw first second
+leads-on site k state middle end (entry ∷ log) later first second = (first .0, first .1, first .2, leads-on site k (first .0) middle end log later (first .3) second)
+
+pub in-round-append : (round : ℕ) (log later : List Message) → inRound round (log ++ later) ≡ inRound round log ++ inRound round later
+in-round-append round [] later = refl
+in-round-append round (m ∷ log) later = ap (λ (rest : List Entry). record { message = m; round = round } ∷ rest) (in-round-append round log later)
+
+-- ---- the DONE messages of a trail
+
+-- from half h on, until T's in half, at most so many
+unfoldable pub donesFrom : Site → Marks → ℕ → ℕ → List Message
+donesFrom site marks zero h = []
+donesFrom site marks (suc times) h =
+    cond (eqb h (inHalf (site .T))) [] (message Done h (onward site marks h) ∷ donesFrom site marks times (onward site marks h))
+
+-- of all trails of the radios that S sends to
+unfoldable pub donesOf : Site → Marks → List ℕ → List Message
+donesOf site marks [] = []
+donesOf site marks (v ∷ radios) = message Done (outHalf (site .S)) (inHalf v) ∷ donesFrom site marks (2 * site .n) (inHalf v) ++ donesOf site marks radios
+
+-- ---- the next radio with a marked step: here, further on, none
+
+module _ (site : Site) (marks : Marks) (h v : ℕ) where
+  down : v < site .n → site .n - v ≡ suc (site .n - suc v)
+  down p = omega arith
+
+  next-here : v < site .n → marks h (inHalf v) ≡ true → nextMarked site marks h v ≡ v
+  unfolding nextMarked firstOf
+  next-here p e = rw (down p, e, firstOf)
+
+  next-further : v < site .n → marks h (inHalf v) ≡ false → nextMarked site marks h v ≡ nextMarked site marks h (suc v)
+  unfolding nextMarked firstOf
+  next-further p e = rw (down p, e, firstOf)
+
+  next-none : site .n ≤ v → nextMarked site marks h v ≡ v
+  unfolding nextMarked firstOf
+  next-none p = rw (sub-eq-zero-of-le p)
+
+-- the half that a trail stands at
+abbrev pub standsAt : List ℕ → ℕ
+standsAt [] = 0
+standsAt (h ∷ trail) = h
+
+-- ---- what is known where DONE is carried: the marked steps go on to T
+
+module _ (site : Site) (k : ℕ) (notes : Notes)
+    (below : (h v : ℕ) → notes .marks h (inHalf v) ≡ true → v < site .n)
+    (on : (a h : ℕ) → notes .marks a h ≡ true → (h ≡ inHalf (site .T) → ⊥) → notes .marks h (onward site (notes .marks) h) ≡ true)
+    (arrive : (v : ℕ) → notes .marks (outHalf (site .S)) (inHalf v) ≡ true → standsAt (trailOf site (notes .marks) v) ≡ inHalf (site .T)) where
+  -- one passing of DONE
+  pass : (v h : ℕ) → eqb h (inHalf (site .T)) ≡ false → notes .marks h (onward site (notes .marks) h) ≡ true
+      → innerStep site k (carrying v h notes) ≡ sends (message Done h (onward site (notes .marks) h)) (carrying v (onward site (notes .marks) h) notes)
+  unfolding innerStep carry passOn onward
+  pass v h not-T marked = rw not-T (go (isOut h) marked)
+    where
+      go : (b : Bool) → notes .marks h (cond b (inHalf (nextMarked site (notes .marks) h 0)) (h + 1)) ≡ true
+          → carry false b site v h notes ≡ sends (message Done h (cond b (inHalf (nextMarked site (notes .marks) h 0)) (h + 1))) (carrying v (cond b (inHalf (nextMarked site (notes .marks) h 0)) (h + 1)) notes)
+      go true m = rw (lt-ltb (nextMarked site (notes .marks) h 0) (site .n) (below h (nextMarked site (notes .marks) h 0) m))
+      go false m = refl
+
+  -- DONE is carried along a trail to its end
+  along : (v times h : ℕ) (trail : List ℕ) → (a : ℕ) → notes .marks a h ≡ true → standsAt (follow (inHalf (site .T)) (onward site (notes .marks)) times (h ∷ trail)) ≡ inHalf (site .T)
+      → Leads site k (carrying v h notes) (inRound (notes .round) (donesFrom site (notes .marks) times h)) (carrying v (inHalf (site .T)) notes)
+  unfolding follow donesFrom
+  along v zero h trail a led ends = ap (λ (x : ℕ). carrying v x notes) ends
+  along v (suc times) h trail a led ends = go (eqb h (inHalf (site .T))) refl ends (along v times (onward site (notes .marks) h) (h ∷ trail) h)
+    where
+      next : ℕ
+      next = onward site (notes .marks) h
+
+      go : (b : Bool) → eqb h (inHalf (site .T)) ≡ b
+          → standsAt (cond b (h ∷ trail) (follow (inHalf (site .T)) (onward site (notes .marks)) times (onward site (notes .marks) h ∷ h ∷ trail))) ≡ inHalf (site .T)
+          → (notes .marks h (onward site (notes .marks) h) ≡ true → standsAt (follow (inHalf (site .T)) (onward site (notes .marks)) times (onward site (notes .marks) h ∷ h ∷ trail)) ≡ inHalf (site .T)
+          → Leads site k (carrying v (onward site (notes .marks) h) notes) (inRound (notes .round) (donesFrom site (notes .marks) times (onward site (notes .marks) h))) (carrying v (inHalf (site .T)) notes))
+          → Leads site k (carrying v h notes) (inRound (notes .round) (cond b [] (message Done h (onward site (notes .marks) h) ∷ donesFrom site (notes .marks) times (onward site (notes .marks) h)))) (carrying v (inHalf (site .T)) notes)
+      go true e at ih = ap (λ (x : ℕ). carrying v x notes) at
+      go false e at ih =
+          let marked = on a h led (eqb-false h (inHalf (site .T)) e) in
+          (carrying v (onward site (notes .marks) h) notes, pass v h e marked, refl, ih marked at)
+
+  -- ---- all trails
+
+  marked : ℕ → Bool
+  marked v = notes .marks (outHalf (site .S)) (inHalf v)
+
+  pub record AllCarried (state : State) (radios : List ℕ) : Type 0 where
+    pub end : State
+    pub leads : Leads site k state (inRound (notes .round) (donesOf site (notes .marks) radios)) end
+    pub ends : innerStep site k end ≡ over
+    pub told : ((radios ≡ []) × (end ≡ state)) ⊎ (notesOf end ≡ notes)
+
+  -- at T the next DONE leaves
+  at-T : (v : ℕ) → innerStep site k (carrying v (inHalf (site .T)) notes) ≡ release site (suc v) notes
+  unfolding innerStep carry
+  at-T v = rw (eq-eqb (inHalf (site .T)) (inHalf (site .T)) refl)
+
+  -- S goes through the radios from v on, of which f are left
+  from : (f v : ℕ) (state : State) → v + f ≡ site .n → innerStep site k state ≡ release site v notes → AllCarried state (passing marked v f)
+  unfolding passing release passOn donesOf marked trailOf
+  from zero v state e next = record { end = state; leads = refl; ends = next ∙ none; told = inl (refl, refl) }
+    where
+      none : release site v notes ≡ over
+      none = rw (next-none site (notes .marks) (outHalf (site .S)) v (omega arith), le-ltb v (site .n) (omega arith))
+  from (suc f) v state e next = go (marked v) refl (λ state′. from f (suc v) state′ (omega arith))
+    where
+      go : (b : Bool) → marked v ≡ b → ((state′ : State) → innerStep site k state′ ≡ release site (suc v) notes → AllCarried state′ (passing marked (suc v) f))
+          → AllCarried state (cond b (v ∷ passing marked (suc v) f) (passing marked (suc v) f))
+      go true m ih = one (ih (carrying v (inHalf (site .T)) notes) (at-T v))
+        where
+          sent : innerStep site k state ≡ sends (message Done (outHalf (site .S)) (inHalf v)) (carrying v (inHalf v) notes)
+          sent = next ∙ rw (next-here site (notes .marks) (outHalf (site .S)) v (omega arith) m, lt-ltb v (site .n) (omega arith))
+
+          one : AllCarried (carrying v (inHalf (site .T)) notes) (passing marked (suc v) f) → AllCarried state (v ∷ passing marked (suc v) f)
+          one rest =
+              record {
+                end = rest .end;
+                leads = (
+                  carrying v (inHalf v) notes,
+                  sent,
+                  refl,
+                  rw (in-round-append (notes .round) (donesFrom site (notes .marks) (2 * site .n) (inHalf v)) (donesOf site (notes .marks) (passing marked (suc v) f)))
+                      (leads-on site k (carrying v (inHalf v) notes) (carrying v (inHalf (site .T)) notes) (rest .end) (inRound (notes .round) (donesFrom site (notes .marks) (2 * site .n) (inHalf v))) (inRound (notes .round) (donesOf site (notes .marks) (passing marked (suc v) f))) (along v (2 * site .n) (inHalf v) (outHalf (site .S) ∷ []) (outHalf (site .S)) m (arrive v m)) (rest .leads)),
+                );
+                ends = rest .ends;
+                told = inr (keeps (rest .told));
+              }
+            where
+              keeps : ((passing marked (suc v) f ≡ []) × (rest .end ≡ carrying v (inHalf (site .T)) notes)) ⊎ (notesOf (rest .end) ≡ notes) → notesOf (rest .end) ≡ notes
+              keeps (inl w) = ap notesOf (w .1)
+              keeps (inr w) = w
+      go false m ih = ih state (next ∙ rw (next-further site (notes .marks) (outHalf (site .S)) v (omega arith) m))
+
+  -- S goes through all radios
+  pub all-carried : (state : State) → innerStep site k state ≡ release site 0 notes → AllCarried state (starts site (notes .marks))
+  unfolding starts marked
+  all-carried state next = from (site .n) 0 state (omega arith) next

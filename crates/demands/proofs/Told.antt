@@ -1,0 +1,87 @@
+-- Rule 8: the paths read off the DONE messages are those of the trails, in the order of DONE. Assumes nothing.
+use mathlib.Core.Path.{_≡_, refl, sym, ap, _∙_}
+use mathlib.Core.Bool.{Bool, true, false, cond}
+use mathlib.Core.List.{List, [], _∷_, _++_, map, append-nil}
+use Prim.Native.Nat.{ℕ, zero, suc, _+_, _*_}
+use native.Mathlib.Omega.{arith}
+use lib.Dec.{eqb}
+use borrow.Author.Tests.{eqb-false, eq-eqb, ne-eqb}
+use Rattle.basics.specs.Lists.{among}
+use Rattle.basics.proofs.Lists.{among-here, among-there}
+use Rattle.site.specs.Map.{Site, inHalf, outHalf, radioOf, isOut}
+use Rattle.site.proofs.Steps.{in-is-not-out, out-is-out, radio-of-in, radio-of-out}
+use Rattle.tokens.specs.declared.Kind.the-variants.{Done}
+use Rattle.tokens.specs.declared.Message.{Message}
+use Rattle.tokens.specs.Rules.{Marks, message}
+use Rattle.tokens.specs.Run.{Entry, Walked, reaches, doneOver, heard, walked}
+use Rattle.menger.proofs.Trail.{follow}
+use Rattle.routes.proofs.Trails.{onward, trailOf, radiosOf, pathOf}
+use Rattle.rounds.proofs.Shows.{inRound}
+use Rattle.demands.proofs.Carried.{in-round-append, donesFrom, donesOf}
+
+-- the radios that DONE reaches from half h on
+unfoldable radiosFrom : Site → Marks → ℕ → ℕ → List ℕ
+radiosFrom site marks zero h = []
+radiosFrom site marks (suc times) h =
+    let next = onward site marks h in
+    cond (eqb h (inHalf (site .T))) [] (cond (isOut next) (radiosFrom site marks times next) (radioOf next ∷ radiosFrom site marks times next))
+
+-- they are those of the trail
+on-the-trail : (site : Site) (marks : Marks) (times h : ℕ) (trail : List ℕ)
+    → radiosOf (follow (inHalf (site .T)) (onward site marks) times (h ∷ trail)) [] ≡ radiosOf (h ∷ trail) (radiosFrom site marks times h)
+unfolding follow radiosFrom radiosOf
+on-the-trail site marks zero h trail = refl
+on-the-trail site marks (suc times) h trail = go (eqb h (inHalf (site .T))) (on-the-trail site marks times (onward site marks h) (h ∷ trail))
+  where
+    go : (b : Bool)
+        → radiosOf (follow (inHalf (site .T)) (onward site marks) times (onward site marks h ∷ h ∷ trail)) [] ≡ radiosOf (onward site marks h ∷ h ∷ trail) (radiosFrom site marks times (onward site marks h))
+        → radiosOf (cond b (h ∷ trail) (follow (inHalf (site .T)) (onward site marks) times (onward site marks h ∷ h ∷ trail))) []
+        ≡ radiosOf (h ∷ trail) (cond b [] (cond (isOut (onward site marks h)) (radiosFrom site marks times (onward site marks h)) (radioOf (onward site marks h) ∷ radiosFrom site marks times (onward site marks h))))
+    go true ih = refl
+    go false ih = ih
+
+path-is : (site : Site) (marks : Marks) (v : ℕ) → pathOf site marks v ≡ site .S ∷ v ∷ radiosFrom site marks (2 * site .n) (inHalf v)
+unfolding pathOf trailOf radiosOf
+path-is site marks v =
+    ap (λ (rest : List ℕ). site .S ∷ rest) (on-the-trail site marks (2 * site .n) (inHalf v) (outHalf (site .S) ∷ []) ∙ rw (in-is-not-out v, out-is-out (site .S), radio-of-in v))
+
+module _ (site : Site) (marks : Marks) (round : ℕ)
+    (not-S : (a h : ℕ) → marks a h ≡ true → h ≡ outHalf (site .S) → ⊥)
+    (on : (a h : ℕ) → marks a h ≡ true → (h ≡ inHalf (site .T) → ⊥) → marks h (onward site marks h) ≡ true) where
+  -- what is read off the rest of one trail
+  read-trail : (times h a : ℕ) → marks a h ≡ true → (later : List Entry)
+      → walked site (inRound round (donesFrom site marks times h) ++ later) ≡ record { onward = radiosFrom site marks times h ++ walked site later .onward; paths = walked site later .paths }
+  unfolding donesFrom radiosFrom walked
+  read-trail zero h a led later = refl
+  read-trail (suc times) h a led later = go (eqb h (inHalf (site .T))) refl (λ marked. read-trail times (onward site marks h) h marked later)
+    where
+      go : (b : Bool) → eqb h (inHalf (site .T)) ≡ b
+          → (marks h (onward site marks h) ≡ true → walked site (inRound round (donesFrom site marks times (onward site marks h)) ++ later) ≡ record { onward = radiosFrom site marks times (onward site marks h) ++ walked site later .onward; paths = walked site later .paths })
+          → walked site (inRound round (cond b [] (message Done h (onward site marks h) ∷ donesFrom site marks times (onward site marks h))) ++ later)
+          ≡ record { onward = cond b [] (cond (isOut (onward site marks h)) (radiosFrom site marks times (onward site marks h)) (radioOf (onward site marks h) ∷ radiosFrom site marks times (onward site marks h))) ++ walked site later .onward; paths = walked site later .paths }
+      go true e ih = refl
+      go false e ih = rw (ih (on a h led (eqb-false h (inHalf (site .T)) e))) (reached (isOut (onward site marks h)))
+        where
+          reached : (b : Bool)
+              → doneOver b site h (onward site marks h) (record { onward = radiosFrom site marks times (onward site marks h) ++ walked site later .onward; paths = walked site later .paths })
+              ≡ record { onward = cond b (radiosFrom site marks times (onward site marks h)) (radioOf (onward site marks h) ∷ radiosFrom site marks times (onward site marks h)) ++ walked site later .onward; paths = walked site later .paths }
+          reached true = refl
+          reached false = rw (ne-eqb h (outHalf (site .S)) (not-S a h led))
+
+  -- the paths read off all DONE messages
+  pub read-all : (radios : List ℕ) → ((v : ℕ) → among v radios ≡ true → marks (outHalf (site .S)) (inHalf v) ≡ true)
+      → walked site (inRound round (donesOf site marks radios)) ≡ record { onward = []; paths = map (pathOf site marks) radios }
+  unfolding donesOf walked
+  read-all [] marked = refl
+  read-all (v ∷ radios) marked =
+      rw (
+        in-round-append round (donesFrom site marks (2 * site .n) (inHalf v)) (donesOf site marks radios),
+        read-trail (2 * site .n) (inHalf v) (outHalf (site .S)) (marked v (among-here v radios)) (inRound round (donesOf site marks radios)),
+        read-all radios (λ w h. marked w (among-there w v radios h)),
+        in-is-not-out v,
+        eq-eqb (outHalf (site .S)) (outHalf (site .S)) refl,
+        radio-of-out (site .S),
+        radio-of-in v,
+        append-nil,
+        path-is site marks v,
+      )
