@@ -3,11 +3,11 @@ use mathlib.Core.Path.{_≡_, refl, sym, ap, _∙_}
 use mathlib.Core.Bool.{Bool, true, false, _&&_}
 use Prim.Native.Nat.{ℕ, zero, suc, _+_, _*_, _-_, _≤_, _<_}
 use native.Mathlib.Omega.{arith}
-use native.Mathlib.Decide.{ℕ-discrete}
+use native.Mathlib.Decide.{ℕ-discrete, decLt}
 use lib.Dec.{eqb}
 use borrow.Author.Tests.{eq-eqb, ne-eqb}
 use Rattle.basics.specs.Counting.{oneIf, sum, count, firstOf, firstFrom, First}
-use Rattle.basics.proofs.Bools.{not-true→false}
+use Rattle.basics.proofs.Bools.{clash, not-true→false}
 
 -- ---- sums
 
@@ -166,3 +166,11 @@ once-counts test (suc n) h = go (test n) refl (once-counts test n h)
     go : (b : Bool) → test n ≡ b → count test n ≤ 1 → oneIf b + count test n ≤ 1
     go true e ih = omega (arith, none-counts test n (λ a p t. omega (arith, h a n t e)))
     go false e ih = omega arith
+
+-- where one passes, the first that passes does
+pub first-passes : (test : ℕ → Bool) (a limit : ℕ) → a < limit → test a ≡ true → test (firstFrom test 0 limit) ≡ true
+first-passes test a limit p h = go (decLt (firstFrom test 0 limit) limit) (first-from test 0 limit (omega arith))
+  where
+    go : Dec (firstFrom test 0 limit < limit) → First test 0 limit (firstFrom test 0 limit) → test (firstFrom test 0 limit) ≡ true
+    go (yes q) w = w .found q
+    go (no q) w = clash h (w .before a (omega arith) (omega arith))

@@ -7,8 +7,10 @@ use Prim.Native.Nat.{ℕ, zero, suc, _+_, _-_, _*_, _≤_, _<_}
 use native.Mathlib.Nat.{sub-eq-zero-of-le}
 use native.Mathlib.Omega.{arith}
 use lib.Dec.{eqb, ltb}
+use lib.ListN.{length}
 use borrow.Author.Tests.{eqb-true, eqb-false, eq-eqb, lt-ltb, le-ltb}
 use Rattle.basics.specs.Counting.{firstOf}
+use Rattle.basics.specs.Lists.{All}
 use Rattle.site.specs.Map.{Site, inHalf, outHalf, radioOf, isOut}
 use Rattle.tokens.specs.declared.Kind.the-variants.{Done}
 use Rattle.tokens.specs.declared.Message.{Message}
@@ -28,6 +30,10 @@ pub in-round-append : (round : ℕ) (log later : List Message) → inRound round
 in-round-append round [] later = refl
 in-round-append round (m ∷ log) later = ap (λ (rest : List Entry). record { message = m; round = round } ∷ rest) (in-round-append round log later)
 
+pub in-round-length : (round : ℕ) (log : List Message) → length (inRound round log) ≡ length log
+in-round-length round [] = refl
+in-round-length round (m ∷ log) = ap suc (in-round-length round log)
+
 -- ---- the DONE messages of a trail
 
 -- from half h on, until T's in half, at most so many
@@ -40,6 +46,26 @@ donesFrom site marks (suc times) h =
 unfoldable pub donesOf : Site → Marks → List ℕ → List Message
 donesOf site marks [] = []
 donesOf site marks (v ∷ radios) = message Done (outHalf (site .S)) (inHalf v) ∷ donesFrom site marks (2 * site .n) (inHalf v) ++ donesOf site marks radios
+
+-- they are all DONE
+from-all-done : (site : Site) (marks : Marks) (times h : ℕ) → All (λ (m : Message). m .kind ≡ Done) (donesFrom site marks times h)
+unfolding donesFrom
+from-all-done site marks zero h = tt
+from-all-done site marks (suc times) h = go (eqb h (inHalf (site .T))) (from-all-done site marks times (onward site marks h))
+  where
+    go : (b : Bool) → All (λ (m : Message). m .kind ≡ Done) (donesFrom site marks times (onward site marks h))
+        → All (λ (m : Message). m .kind ≡ Done) (cond b [] (message Done h (onward site marks h) ∷ donesFrom site marks times (onward site marks h)))
+    go true ih = tt
+    go false ih = (refl, ih)
+
+all-append : (log later : List Message) → All (λ (m : Message). m .kind ≡ Done) log → All (λ (m : Message). m .kind ≡ Done) later → All (λ (m : Message). m .kind ≡ Done) (log ++ later)
+all-append [] later first second = second
+all-append (m ∷ log) later first second = (first .0, all-append log later (first .1) second)
+
+pub all-done : (site : Site) (marks : Marks) (radios : List ℕ) → All (λ (m : Message). m .kind ≡ Done) (donesOf site marks radios)
+unfolding donesOf
+all-done site marks [] = tt
+all-done site marks (v ∷ radios) = (refl, all-append (donesFrom site marks (2 * site .n) (inHalf v)) (donesOf site marks radios) (from-all-done site marks (2 * site .n) (inHalf v)) (all-done site marks radios))
 
 -- ---- the next radio with a marked step: here, further on, none
 
@@ -63,6 +89,13 @@ module _ (site : Site) (marks : Marks) (h v : ℕ) where
 abbrev pub standsAt : List ℕ → ℕ
 standsAt [] = 0
 standsAt (h ∷ trail) = h
+
+-- S has sent DONE to each of these radios, and the run is over
+pub record AllCarried (site : Site) (k : ℕ) (notes : Notes) (state : State) (radios : List ℕ) : Type 0 where
+  pub end : State
+  pub leads : Leads site k state (inRound (notes .round) (donesOf site (notes .marks) radios)) end
+  pub ends : innerStep site k end ≡ over
+  pub told : ((radios ≡ []) × (end ≡ state)) ⊎ (notesOf end ≡ notes)
 
 -- ---- what is known where DONE is carried: the marked steps go on to T
 
@@ -106,19 +139,13 @@ module _ (site : Site) (k : ℕ) (notes : Notes)
   marked : ℕ → Bool
   marked v = notes .marks (outHalf (site .S)) (inHalf v)
 
-  pub record AllCarried (state : State) (radios : List ℕ) : Type 0 where
-    pub end : State
-    pub leads : Leads site k state (inRound (notes .round) (donesOf site (notes .marks) radios)) end
-    pub ends : innerStep site k end ≡ over
-    pub told : ((radios ≡ []) × (end ≡ state)) ⊎ (notesOf end ≡ notes)
-
   -- at T the next DONE leaves
   at-T : (v : ℕ) → innerStep site k (carrying v (inHalf (site .T)) notes) ≡ release site (suc v) notes
   unfolding innerStep carry
   at-T v = rw (eq-eqb (inHalf (site .T)) (inHalf (site .T)) refl)
 
   -- S goes through the radios from v on, of which f are left
-  from : (f v : ℕ) (state : State) → v + f ≡ site .n → innerStep site k state ≡ release site v notes → AllCarried state (passing marked v f)
+  from : (f v : ℕ) (state : State) → v + f ≡ site .n → innerStep site k state ≡ release site v notes → AllCarried site k notes state (passing marked v f)
   unfolding passing release passOn donesOf marked trailOf
   from zero v state e next = record { end = state; leads = refl; ends = next ∙ none; told = inl (refl, refl) }
     where
@@ -126,14 +153,14 @@ module _ (site : Site) (k : ℕ) (notes : Notes)
       none = rw (next-none site (notes .marks) (outHalf (site .S)) v (omega arith), le-ltb v (site .n) (omega arith))
   from (suc f) v state e next = go (marked v) refl (λ state′. from f (suc v) state′ (omega arith))
     where
-      go : (b : Bool) → marked v ≡ b → ((state′ : State) → innerStep site k state′ ≡ release site (suc v) notes → AllCarried state′ (passing marked (suc v) f))
-          → AllCarried state (cond b (v ∷ passing marked (suc v) f) (passing marked (suc v) f))
+      go : (b : Bool) → marked v ≡ b → ((state′ : State) → innerStep site k state′ ≡ release site (suc v) notes → AllCarried site k notes state′ (passing marked (suc v) f))
+          → AllCarried site k notes state (cond b (v ∷ passing marked (suc v) f) (passing marked (suc v) f))
       go true m ih = one (ih (carrying v (inHalf (site .T)) notes) (at-T v))
         where
           sent : innerStep site k state ≡ sends (message Done (outHalf (site .S)) (inHalf v)) (carrying v (inHalf v) notes)
           sent = next ∙ rw (next-here site (notes .marks) (outHalf (site .S)) v (omega arith) m, lt-ltb v (site .n) (omega arith))
 
-          one : AllCarried (carrying v (inHalf (site .T)) notes) (passing marked (suc v) f) → AllCarried state (v ∷ passing marked (suc v) f)
+          one : AllCarried site k notes (carrying v (inHalf (site .T)) notes) (passing marked (suc v) f) → AllCarried site k notes state (v ∷ passing marked (suc v) f)
           one rest =
               record {
                 end = rest .end;
@@ -154,6 +181,6 @@ module _ (site : Site) (k : ℕ) (notes : Notes)
       go false m ih = ih state (next ∙ rw (next-further site (notes .marks) (outHalf (site .S)) v (omega arith) m))
 
   -- S goes through all radios
-  pub all-carried : (state : State) → innerStep site k state ≡ release site 0 notes → AllCarried state (starts site (notes .marks))
+  pub all-carried : (state : State) → innerStep site k state ≡ release site 0 notes → AllCarried site k notes state (starts site (notes .marks))
   unfolding starts marked
   all-carried state next = from (site .n) 0 state (omega arith) next

@@ -1,3 +1,7 @@
 pub mod Carried
+pub mod Few
 pub mod Told
 pub mod Tokens
+pub mod Rounds
+pub mod Whole
+pub mod Demands

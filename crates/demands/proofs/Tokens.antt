@@ -130,7 +130,7 @@ opening-of-round (suc i) round [] = refl
 opening-of-round (suc i) round (m ∷ log) = ap (λ (rest : List Entry). record { message = m; round = round } ∷ rest) (opening-of-round i round log)
 
 -- the DONE messages of the last round
-pub dones-orderly : (site : Site) (first round : ℕ) (log : List Message) → first ≤ round → All (λ (m : Message). m .kind ≡ Done) log → Orderly site first (inRound round log)
+dones-orderly : (site : Site) (first round : ℕ) (log : List Message) → first ≤ round → All (λ (m : Message). m .kind ≡ Done) log → Orderly site first (inRound round log)
 dones-orderly site first round log later all =
     record {
       none-earlier = λ kinds other a b p. in-another-round kinds round other a b log (λ e. omega arith);
@@ -179,44 +179,54 @@ round-orderly site split marks round log answered few =
     before i other a b (yes e) = rw (opening-of-round i round log, e) (omega (arith, in-its-round isReply round b a (take i log), in-its-round isToken round a b (take i log), tokens-are a b (take i log), none-early i log (λ x y. 0) answered a b))
     before i other a b (no e) = omega (arith, in-another-round isReply round other b a log e, opening-le isReply other b a i (inRound round log))
 
+-- one log after another that has no tokens in the same round
+module _ {site : Site} {first : ℕ} {log later : List Entry} (now : Orderly site first log) (then : Orderly site first later)
+    (apart : (round a b : ℕ) → ((tokensIn round a b log ≡ 0) × (tokensIn round b a log ≡ 0)) ⊎ ((tokensIn round a b later ≡ 0) × (tokensIn round b a later ≡ 0))) where
+  sent : (kinds : Kind → Bool) (round a b : ℕ) → sentIn kinds round a b (log ++ later) ≡ sentIn kinds round a b log + sentIn kinds round a b later
+  sent kinds round a b = sent-append kinds round a b log later
+
+  goes : (round a b : ℕ) → Dec (0 < tokensIn round a b log) → 0 < tokensIn round a b log + tokensIn round a b later → (step site a b ≡ true) ⊎ (step site b a ≡ true)
+  goes round a b (yes p) some = now .over-steps round a b p
+  goes round a b (no p) some = then .over-steps round a b (omega arith)
+
+  only : (round a b : ℕ) → ((tokensIn round a b log ≡ 0) × (tokensIn round b a log ≡ 0)) ⊎ ((tokensIn round a b later ≡ 0) × (tokensIn round b a later ≡ 0)) → tokensIn round a b (log ++ later) + tokensIn round b a (log ++ later) ≤ 1
+  only round a b (inl none) = omega (arith, sent isToken round a b, sent isToken round b a, then .once round a b, none .0, none .1)
+  only round a b (inr none) = omega (arith, sent isToken round a b, sent isToken round b a, now .once round a b, none .0, none .1)
+
+  pub orderly-append : Orderly site first (log ++ later)
+  orderly-append =
+      record {
+        none-earlier = λ kinds round a b p. omega (arith, sent kinds round a b, now .none-earlier kinds round a b p, then .none-earlier kinds round a b p);
+        over-steps = λ round a b some. goes round a b (decLt 0 (tokensIn round a b log)) (omega (arith, sent isToken round a b));
+        once = λ round a b. only round a b (apart round a b);
+        one-reply = λ round a b. omega (arith, sent isReply round b a, sent isToken round a b, now .one-reply round a b, then .one-reply round a b);
+        none-before = λ i round a b. rw (opening-append i log later) (omega (
+          arith,
+          sent-append isReply round b a (take i log) (take (i - length log) later),
+          sent-append isToken round a b (take i log) (take (i - length log) later),
+          now .none-before i round a b,
+          then .none-before (i - length log) round a b,
+        ));
+      }
+
 -- a round's messages before those of later rounds
-pub orderly-append : (site : Site) (round : ℕ) (log : List Message) (later : List Entry) → Orderly site round (inRound round log) → Orderly site (suc round) later → Orderly site round (inRound round log ++ later)
-orderly-append site round log later now then =
-    record {
-      none-earlier = λ kinds other a b p. omega (arith, sent kinds other a b, now .none-earlier kinds other a b p, then .none-earlier kinds other a b (omega arith));
-      over-steps = λ other a b some. goes other a b (decLt 0 (tokensIn other a b (inRound round log))) (omega (arith, sent isToken other a b));
-      once = λ other a b. only other a b (decLt round other);
-      one-reply = λ other a b. omega (arith, sent isReply other b a, sent isToken other a b, now .one-reply other a b, then .one-reply other a b);
-      none-before = λ i other a b. rw (opening-append i (inRound round log) later) (omega (
-        arith,
-        sent-append isReply other b a (take i (inRound round log)) (take (i - length (inRound round log)) later),
-        sent-append isToken other a b (take i (inRound round log)) (take (i - length (inRound round log)) later),
-        now .none-before i other a b,
-        then .none-before (i - length (inRound round log)) other a b,
-      ));
-    }
+pub later-rounds : (site : Site) (round : ℕ) (log : List Message) (later : List Entry) → Orderly site round (inRound round log) → Orderly site (suc round) later → Orderly site round (inRound round log ++ later)
+later-rounds site round log later now then = orderly-append now sooner (λ other a b. apart other a b (decLt round other))
   where
-    sent : (kinds : Kind → Bool) (other a b : ℕ) → sentIn kinds other a b (inRound round log ++ later) ≡ sentIn kinds other a b (inRound round log) + sentIn kinds other a b later
-    sent kinds other a b = sent-append kinds other a b (inRound round log) later
+    sooner : Orderly site round later
+    sooner = record {
+      none-earlier = λ kinds other a b p. then .none-earlier kinds other a b (omega arith);
+      over-steps = then .over-steps;
+      once = then .once;
+      one-reply = then .one-reply;
+      none-before = then .none-before;
+    }
 
-    goes : (other a b : ℕ) → Dec (0 < tokensIn other a b (inRound round log)) → 0 < tokensIn other a b (inRound round log) + tokensIn other a b later → (step site a b ≡ true) ⊎ (step site b a ≡ true)
-    goes other a b (yes p) some = now .over-steps other a b p
-    goes other a b (no p) some = then .over-steps other a b (omega arith)
+    apart : (other a b : ℕ) → Dec (round < other)
+        → ((tokensIn other a b (inRound round log) ≡ 0) × (tokensIn other b a (inRound round log) ≡ 0)) ⊎ ((tokensIn other a b later ≡ 0) × (tokensIn other b a later ≡ 0))
+    apart other a b (yes p) = inl (in-another-round isToken round other a b log (λ e. omega arith), in-another-round isToken round other b a log (λ e. omega arith))
+    apart other a b (no p) = inr (then .none-earlier isToken other a b (omega arith), then .none-earlier isToken other b a (omega arith))
 
-    only : (other a b : ℕ) → Dec (round < other) → tokensIn other a b (inRound round log ++ later) + tokensIn other b a (inRound round log ++ later) ≤ 1
-    only other a b (yes p) = omega (
-      arith,
-      sent isToken other a b,
-      sent isToken other b a,
-      then .once other a b,
-      in-another-round isToken round other a b log (λ e. omega arith),
-      in-another-round isToken round other b a log (λ e. omega arith),
-    )
-    only other a b (no p) = omega (
-      arith,
-      sent isToken other a b,
-      sent isToken other b a,
-      now .once other a b,
-      then .none-earlier isToken other a b (omega arith),
-      then .none-earlier isToken other b a (omega arith),
-    )
+-- the DONE messages after all rounds
+pub then-dones : (site : Site) (first round : ℕ) (log : List Entry) (dones : List Message) → first ≤ round → Orderly site first log → All (λ (m : Message). m .kind ≡ Done) dones → Orderly site first (log ++ inRound round dones)
+then-dones site first round log dones later now all = orderly-append now (dones-orderly site first round dones later all) (λ other a b. inr (no-dones isToken refl round other a b dones all, no-dones isToken refl round other b a dones all))

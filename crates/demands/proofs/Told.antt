@@ -10,14 +10,27 @@ use Rattle.basics.specs.Lists.{among}
 use Rattle.basics.proofs.Lists.{among-here, among-there}
 use Rattle.site.specs.Map.{Site, inHalf, outHalf, radioOf, isOut}
 use Rattle.site.proofs.Steps.{in-is-not-out, out-is-out, radio-of-in, radio-of-out}
-use Rattle.tokens.specs.declared.Kind.the-variants.{Done}
+use Rattle.tokens.specs.declared.Kind.{Kind}
+use Rattle.tokens.specs.declared.Kind.the-variants.{Pdt, PdtB, Pmt, Done}
 use Rattle.tokens.specs.declared.Message.{Message}
 use Rattle.tokens.specs.Rules.{Marks, message}
 use Rattle.tokens.specs.Run.{Entry, Walked, reaches, doneOver, heard, walked}
 use Rattle.menger.proofs.Trail.{follow}
 use Rattle.routes.proofs.Trails.{onward, trailOf, radiosOf, pathOf}
-use Rattle.rounds.proofs.Shows.{inRound}
+use Rattle.rounds.proofs.Shows.{inRound, Due, dueAfter, Answered}
 use Rattle.demands.proofs.Carried.{in-round-append, donesFrom, donesOf}
+
+-- the messages of a round tell of no path: it sends no DONE
+pub round-silent : (site : Site) (round : ℕ) (log : List Message) (w : ℕ → ℕ → ℕ) → Answered log w → (later : List Entry) → walked site (inRound round log ++ later) ≡ walked site later
+unfolding walked
+round-silent site round [] w answered later = refl
+round-silent site round (m ∷ log) w answered later = go (m .kind) (answered .0) (round-silent site round log (dueAfter (m .kind) (m .from) (m .to) w) (answered .1) later)
+  where
+    go : (kind : Kind) → Due kind (m .from) (m .to) w → walked site (inRound round log ++ later) ≡ walked site later → heard kind site (m .from) (m .to) (walked site (inRound round log ++ later)) ≡ walked site later
+    go Pdt due ih = ih
+    go PdtB due ih = ih
+    go Pmt due ih = ih
+    go Done due ih = absurd due
 
 -- the radios that DONE reaches from half h on
 unfoldable radiosFrom : Site → Marks → ℕ → ℕ → List ℕ

@@ -1,9 +1,9 @@
 -- Flows: marks on steps that carry p units from the source to the goal; a walk that is turned carries one more. Assumes nothing.
 use mathlib.Core.Path.{_≡_, refl, sym, ap, _∙_}
-use mathlib.Core.Bool.{Bool, true, false, not}
+use mathlib.Core.Bool.{true, false, not}
 use mathlib.Core.List.{List, [], _∷_}
 use mathlib.Core.Logic.{_⊎_, inl, inr}
-use Prim.Native.Nat.{ℕ, zero, suc, _+_, _*_, _<_}
+use Prim.Native.Nat.{ℕ, suc, _+_, _*_, _<_}
 use native.Mathlib.Omega.{arith}
 use native.Mathlib.Decide.{ℕ-discrete}
 use native.Mathlib.Nat.{suc-mul}
@@ -56,6 +56,28 @@ module _ (net : Network) where
     one-cell (λ i j. m j i) (λ i j. m′ j i) b a (net .size) p off on (λ i j ne. same j i (λ e. ne (e .1, e .0))) h,
   )
 
+  -- a way on which y is not can be walked as before when a step at y is turned
+  way-stands : (m : Marks) (h y g : ℕ) (rest : List ℕ) → among y (g ∷ rest) ≡ false → Way net m g rest → Way net (turned net h y m) g rest
+  unfolding walkable
+  way-stands m h y g [] out w = w
+  way-stands m h y g (k ∷ rest) out w = (rw (stands k g not-k not-g, stands g k not-g not-k) (w .0), way-stands m h y k rest later (w .1))
+    where
+      later : among y (k ∷ rest) ≡ false
+      later = among-neither y g (k ∷ rest) out .1
+
+      not-g : g ≡ y → ⊥
+      not-g e = among-neither y g (k ∷ rest) out .0 (sym e)
+
+      not-k : k ≡ y → ⊥
+      not-k e = among-neither y k rest later .0 (sym e)
+
+      stands : (a b : ℕ) → (a ≡ y → ⊥) → (b ≡ y → ⊥) → turned net h y m a b ≡ m a b
+      stands a b not-a not-b = others-stand net m h y a b (λ s u. go u)
+        where
+          go : Between h y a b → ⊥
+          go (inl u) = not-b (u .1)
+          go (inr u) = not-a (u .0)
+
   module _ (split : Split net) where
     turn-moves : (m : Marks) (h y : ℕ) → walkable net m h y ≡ true → Moves m (turned net h y m) h y
     turn-moves m h y w = go (walk-cases net m h y w)
@@ -74,28 +96,6 @@ module _ (net : Network) where
             other : {i j : ℕ} → ((i ≡ y) × (j ≡ h) → ⊥) → net .step i j ≡ true → Between h y i j → ⊥
             other ne s (inl u) = split .one-way y h (e .0) (rw (u .0, u .1) at s)
             other ne s (inr u) = ne u
-
-    -- a way on which y is not can be walked as before when a step at y is turned
-    way-stands : (m : Marks) (h y g : ℕ) (rest : List ℕ) → among y (g ∷ rest) ≡ false → Way net m g rest → Way net (turned net h y m) g rest
-    unfolding walkable
-    way-stands m h y g [] out w = w
-    way-stands m h y g (k ∷ rest) out w = (rw (stands k g not-k not-g, stands g k not-g not-k) (w .0), way-stands m h y k rest later (w .1))
-      where
-        later : among y (k ∷ rest) ≡ false
-        later = among-neither y g (k ∷ rest) out .1
-
-        not-g : g ≡ y → ⊥
-        not-g e = among-neither y g (k ∷ rest) out .0 (sym e)
-
-        not-k : k ≡ y → ⊥
-        not-k e = among-neither y k rest later .0 (sym e)
-
-        stands : (a b : ℕ) → (a ≡ y → ⊥) → (b ≡ y → ⊥) → turned net h y m a b ≡ m a b
-        stands a b not-a not-b = others-stand net m h y a b (λ s u. go u)
-          where
-            go : Between h y a b → ⊥
-            go (inl u) = not-b (u .1)
-            go (inr u) = not-a (u .0)
 
     way-moves : (m : Marks) (y : ℕ) (halves : List ℕ) → Way net m y halves → Different (y ∷ halves) → Moves m (allTurned net y halves m) (net .source) y
     unfolding allTurned

@@ -3,3 +3,5 @@ pub mod Walks
 pub mod Flow
 pub mod Units
 pub mod Trail
+pub mod Few
+pub mod Leaving

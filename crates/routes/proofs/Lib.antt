@@ -1,2 +1,9 @@
-pub mod Trails
+pub mod Cutting
+pub mod Duality
+pub mod FromFlow
+pub mod LeavesOnce
+pub mod Most
+pub mod Radios
 pub mod Split
+pub mod Starts
+pub mod Trails

@@ -11,7 +11,7 @@ use lib.ListN.{getD}
 use native.Mathlib.Nat.{mul-add-div-right, mul-add-mod-self-right, mod-eq-of-lt, div-eq-of-lt, mul-le-mul-right, suc-mul}
 use borrow.Author.Tests.{le-ltb, lt-ltb, eq-eqb, ne-eqb}
 use Rattle.site.specs.Map.{Site, linked}
-use Rattle.site.specs.Refusals.{Call, verdict, number}
+use Rattle.site.specs.Refusals.{Call, logNeeds, pathsNeed, verdict, number}
 use Rattle.site.specs.Conditions.{Fault, mirror}
 use Rattle.site.proofs.Formula.{Even}
 use Rattle.site.proofs.Exactly.{accepted-exactly}
@@ -66,3 +66,21 @@ accepted-valid call accepted =
       T-below = omega arith;
       ends-differ = λ e. none 4 (inr (inr e));
     }
+
+-- an accepted call wants some path, and lends enough room
+pub record Room (call : Call) : Type 0 where
+  pub wanted : 0 < call .k
+  pub few-wanted : call .k ≤ 8
+  pub log : logNeeds (call .site) (call .k) ≤ call .logLength
+  pub paths : pathsNeed (call .site) (call .k) ≤ call .pathsLength
+  pub cut : call .k ≤ call .cutLength
+
+pub accepted-room : (call : Call) → number (verdict call) ≡ 0 → Room call
+accepted-room call accepted =
+    let none = accepted-exactly call .0 accepted in
+    let some : call .k ≡ 0 → ⊥ = λ e. none 5 (inl e) in
+    let few : 8 < call .k → ⊥ = λ p. none 5 (inr p) in
+    let log : call .logLength < logNeeds (call .site) (call .k) → ⊥ = λ p. none 6 p in
+    let paths : call .pathsLength < pathsNeed (call .site) (call .k) → ⊥ = λ p. none 7 (inl p) in
+    let cut : call .cutLength < call .k → ⊥ = λ p. none 7 (inr p) in
+    record { wanted = omega arith; few-wanted = omega arith; log = omega arith; paths = omega arith; cut = omega arith }

@@ -1,0 +1,128 @@
+-- The whole run of the token rules: its rounds, then its DONE messages, and then it is over by itself. Assumes nothing.
+use mathlib.Core.Path.{_≡_, refl, sym, ap, _∙_}
+use mathlib.Core.Bool.{true, false}
+use mathlib.Core.List.{List, [], _∷_, _++_}
+use mathlib.Core.Logic.{_⊎_, inl, inr}
+use Prim.Native.Nat.{ℕ, zero, suc, _+_, _-_, _*_, _≤_, _<_}
+use native.Mathlib.Nat.{add-mul, mul-suc, mul-right-comm}
+use native.Mathlib.Omega.{arith}
+use lib.ListN.{length, length-append}
+use Rattle.site.specs.Map.{Site, inHalf, outHalf, A}
+use Rattle.site.proofs.Valid.{Valid}
+use Rattle.tokens.specs.declared.Message.{Message}
+use Rattle.tokens.specs.Rules.{Notes, State, over, onlyS, begun, justS, search, innerStep, start}
+use Rattle.tokens.specs.Run.{Entry, Walked, notesOf, runOn, runFrom, walked, pathsOf}
+use Rattle.menger.proofs.Network.{Shut}
+use Rattle.menger.proofs.Flow.{Flow, no-flow}
+use Rattle.menger.proofs.Units.{marked-below, not-the-source}
+use Rattle.routes.proofs.FromFlow.{whole, paths-number}
+use Rattle.routes.proofs.Split.{split-of}
+use Rattle.routes.proofs.Starts.{starts-marked, starts-number, onward-marked}
+use Rattle.routes.proofs.Trails.{networkOf, trailOf, starts, pathsFrom}
+use Rattle.rounds.proofs.Shows.{Leads, inRound, Played}
+use Rattle.demands.proofs.Carried.{leads-on, in-round-length, donesOf, all-done, standsAt, AllCarried, all-carried}
+use Rattle.demands.proofs.Few.{dones-few}
+use Rattle.demands.proofs.Rounds.{AllPlayed, all-played}
+use Rattle.demands.proofs.Told.{read-all}
+use Rattle.demands.proofs.Tokens.{Orderly, then-dones}
+
+-- what a run that wants k paths comes to
+pub record Ran (site : Site) (k : ℕ) : Type 0 where
+  pub log : List Entry
+  pub end : State
+  pub last : Notes
+  pub leads : Leads site k (start site) log end
+  pub ends : innerStep site k end ≡ over
+  pub told : notesOf end ≡ last
+  pub flow : Flow (networkOf site) (last .found) (last .marks)
+  pub outcome : ((last .found ≡ k) × (last .round ≡ k)) ⊎ ((last .found < k) × (last .round ≡ suc (last .found)) × Shut (networkOf site) (last .marks) (last .entered))
+  pub paths : pathsOf site log ≡ pathsFrom site (last .marks)
+  pub orderly : Orderly site 1 log
+  pub bound : length log ≤ (2 * last .round + 1) * A site
+
+-- a log that leads to the end and fits the budget is the run's
+pub run-is : (site : Site) (k budget : ℕ) (state : State) (log : List Entry) (end : State) → Leads site k state log end → innerStep site k end ≡ over → length log ≤ budget
+    → runFrom site k budget state ≡ record { log = log; last = end }
+unfolding runOn
+run-is site k zero state [] end leads ends fits = rw leads
+run-is site k (suc budget) state [] end leads ends fits = rw (leads, ends)
+run-is site k zero state (e ∷ log) end leads ends fits = absurd (omega arith)
+run-is site k (suc budget) state (e ∷ log) end leads ends fits = rw (leads .1, run-is site k budget (leads .0) log end (leads .3) ends (omega arith), sym (leads .2))
+
+module _ {site : Site} (valid : Valid site) (k : ℕ) (wanted : 0 < k)
+    (play : (state : State) (notes : Notes) → innerStep site k state ≡ search site notes (justS site) → notes .entered ≡ onlyS site → Played site k state notes) where
+  -- the notes of round 1
+  first : Notes
+  first = begun site (record { round = 0; found = 0; marks = λ a b. false; entered = λ h. false })
+
+  rounds : AllPlayed site k (start site) first
+  unfolding first innerStep
+  rounds = all-played site valid k play (k - 1) (start site) first (omega arith) refl (no-flow (networkOf site)) refl refl
+
+  -- S sends DONE along the marks of the last round
+  carried : (r : AllPlayed site k (start site) first) → AllCarried site k (r .last) (r .end) (starts site (r .last .marks))
+  carried r = all-carried site k (r .last) below (onward-marked valid (r .flow)) arrive (r .end) (r .gives-up)
+    where
+      below : (h v : ℕ) → r .last .marks h (inHalf v) ≡ true → v < site .n
+      below h v e = omega (arith, marked-below (split-of site valid) (r .flow) h (inHalf v) e .1)
+
+      arrive : (v : ℕ) → r .last .marks (outHalf (site .S)) (inHalf v) ≡ true → standsAt (trailOf site (r .last .marks) v) ≡ inHalf (site .T)
+      arrive v e = ap standsAt (whole valid (r .flow) v e .shape)
+
+  -- where there is no DONE nothing was found, and the rounds tell the notes
+  tells : (r : AllPlayed site k (start site) first) (c : AllCarried site k (r .last) (r .end) (starts site (r .last .marks))) → notesOf (c .end) ≡ r .last
+  unfolding first
+  tells r c = go (c .told)
+    where
+      early : ((r .end ≡ start site) × (r .last ≡ first)) ⊎ (notesOf (r .end) ≡ r .last) → notesOf (r .end) ≡ r .last
+      early (inl w) = ap notesOf (w .0) ∙ sym (w .1)
+      early (inr w) = w
+
+      go : ((starts site (r .last .marks) ≡ []) × (c .end ≡ r .end)) ⊎ (notesOf (c .end) ≡ r .last) → notesOf (c .end) ≡ r .last
+      go (inl w) = ap notesOf (w .1) ∙ early (r .told (sym (starts-number valid (r .flow)) ∙ ap length (w .0)))
+      go (inr w) = w
+
+  -- both together
+  finish : (r : AllPlayed site k (start site) first) → AllCarried site k (r .last) (r .end) (starts site (r .last .marks)) → Ran site k
+  unfolding first pathsFrom
+  finish r c =
+      record {
+        log = r .log ++ inRound (r .last .round) dones;
+        end = c .end;
+        last = r .last;
+        leads = leads-on site k (start site) (r .end) (c .end) (r .log) (inRound (r .last .round) dones) (r .leads) (c .leads);
+        ends = c .ends;
+        told = tells r c;
+        flow = r .flow;
+        outcome = r .outcome;
+        paths = ap (λ (w : Walked). w .paths) (r .silent (inRound (r .last .round) dones) ∙ read);
+        orderly = then-dones site 1 (r .last .round) (r .log) dones later (r .orderly) (all-done site (r .last .marks) (starts site (r .last .marks)));
+        bound = omega (
+          arith,
+          length-append (r .log) (inRound (r .last .round) dones),
+          in-round-length (r .last .round) dones,
+          dones-few valid (r .flow),
+          r .few,
+          mul-suc (2 * A site) (r .last .round),
+          twice (r .last .round) (A site),
+        );
+      }
+    where
+      dones : List Message
+      dones = donesOf site (r .last .marks) (starts site (r .last .marks))
+
+      read : walked site (inRound (r .last .round) dones) ≡ record { onward = []; paths = pathsFrom site (r .last .marks) }
+      read = read-all site (r .last .marks) (r .last .round) (not-the-source (split-of site valid) (r .flow)) (onward-marked valid (r .flow)) (starts site (r .last .marks)) (starts-marked valid (r .flow))
+
+      some : ((r .last .found ≡ k) × (r .last .round ≡ k)) ⊎ ((r .last .found < k) × (r .last .round ≡ suc (r .last .found)) × Shut (networkOf site) (r .last .marks) (r .last .entered)) → 1 ≤ r .last .round
+      some (inl w) = omega (arith, w .1)
+      some (inr w) = omega (arith, w .1)
+
+      later : 1 ≤ r .last .round
+      later = some (r .outcome)
+
+      twice : (x a : ℕ) → (2 * x + 1) * a ≡ 2 * a * x + a
+      twice x a = add-mul (2 * x) 1 a ∙ omega (arith, mul-right-comm 2 x a)
+
+  pub ran : Ran site k
+  ran = finish rounds (carried rounds)
