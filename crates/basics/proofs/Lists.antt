@@ -151,7 +151,9 @@ total-once test (y ∷ list) k d some same = go (test y) refl (λ j some′. tot
     go true e later = omega (arith, some y (among-here y list) e, later 0 (λ x u t. clash (rw (same x y (among-there x y list u) (among-here y list) t e) at u) (d .0)))
     go false e later = omega (arith, later k (λ x u. some x (among-there x y list u)))
 
--- and no other number comes
+-- ---- without one of them
+
+-- no other number comes
 pub erase-among : (x y : ℕ) (list : List ℕ) → among y (erase x list) ≡ true → among y list ≡ true
 unfolding erase
 erase-among x y [] h = h
@@ -177,6 +179,7 @@ erase-different x (y ∷ list) d = go (eqb x y) refl (erase-different x list (d 
 
 -- ---- one list after another
 
+-- what is in the two is in one of them
 pub among-append : (x : ℕ) (list other : List ℕ) → among x (list ++ other) ≡ true → (among x list ≡ true) ⊎ (among x other ≡ true)
 among-append x [] other h = inr h
 among-append x (y ∷ list) other h = go (among-cases x y (list ++ other) h) (among-append x list other)
@@ -215,6 +218,7 @@ all-take P zero list a = tt
 all-take P (suc k) [] a = tt
 all-take P (suc k) (x ∷ list) a = (a .0, all-take P k list (a .1))
 
+-- and any two of the first k stand as any two of it do
 pub any-two-take {ℓ} : {A : Type ℓ} (R : A → A → Type 0) (k : ℕ) (list : List A) → AnyTwo R list → AnyTwo R (take k list)
 any-two-take R zero list a = tt
 any-two-take R (suc k) [] a = tt
@@ -222,6 +226,7 @@ any-two-take R (suc k) (x ∷ list) a = (all-take (R x) k list (a .0), any-two-t
 
 -- ---- one for each of a list
 
+-- what comes of one of the list is among what comes of all
 pub among-map : (f : ℕ → ℕ) (x : ℕ) (list : List ℕ) → among x list ≡ true → among (f x) (map f list) ≡ true
 among-map f x [] h = absurd (among-nil x h)
 among-map f x (y ∷ list) h = go (among-cases x y list h) (among-map f x list)
@@ -230,10 +235,12 @@ among-map f x (y ∷ list) h = go (among-cases x y list h) (among-map f x list)
     go (inl e) ih = rw e (among-here (f y) (map f list))
     go (inr e) ih = among-there (f x) (f y) (map f list) (ih e)
 
+-- what each gives has the property
 pub all-map {ℓ} : {A : Type ℓ} (P : A → Type 0) (f : ℕ → A) (list : List ℕ) → ((x : ℕ) → among x list ≡ true → P (f x)) → All P (map f list)
 all-map P f [] each = tt
 all-map P f (x ∷ list) each = (each x (among-here x list), all-map P f list (λ y h. each y (among-there y x list h)))
 
+-- what any two different ones give stands in the relation
 pub any-two-map {ℓ} : {A : Type ℓ} (R : A → A → Type 0) (f : ℕ → A) (list : List ℕ) → Different list → ((x y : ℕ) → among x list ≡ true → among y list ≡ true → (x ≡ y → ⊥) → R (f x) (f y)) → AnyTwo R (map f list)
 any-two-map R f [] d two = tt
 any-two-map R f (x ∷ list) d two = (

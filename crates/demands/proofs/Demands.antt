@@ -20,13 +20,13 @@ use Rattle.menger.proofs.Network.{Shut}
 use Rattle.menger.proofs.Flow.{Flow}
 use Rattle.routes.proofs.Trails.{networkOf, pathsFrom}
 use Rattle.routes.proofs.FromFlow.{paths-disjoint, paths-number}
-use Rattle.routes.proofs.Duality.{largest-unique, radiosIn, few-radios-in}
+use Rattle.routes.proofs.Duality.{largest-unique, radiosIn, few-bytes}
 use Rattle.routes.proofs.Cutting.{cut, cut-number, cut-in-order}
 use Rattle.routes.proofs.Most.{few-units, largest}
 use Rattle.rounds.proofs.Depth.{round-played}
 use Rattle.outcome.specs.Leaves.{runOf, pathsFound, cutFound, logBytes, pathBytes, outcome}
-use Rattle.outcome.specs.Demand2.{Demand2}
-use Rattle.outcome.specs.Demand3.{Demand3}
+use Rattle.demands.specs.Demand2.{Demand2}
+use Rattle.demands.specs.Demand3.{Demand3}
 use Rattle.demands.proofs.Whole.{Ran, run-is, ran}
 
 -- ---- M exists
@@ -170,7 +170,7 @@ module _ (call : Call) (accepted : outcome call .refusal ≡ 0) where
       enough none (no p) = absurd (none (pathsFound call) disjoint (omega (arith, paths-counted, at-most)))
 
       smaller : (M : ℕ) → Largest (call .site) M → Dec (outcome call .paths < call .k) → outcome call .paths ≡ min (call .k) M
-      smaller M l (yes p) = omega (arith, largest-unique (call .site) M (outcome call .paths) l (most p))
+      smaller M l (yes p) = omega (arith, largest-unique l (most p))
       smaller M l (no p) = omega (arith, at-most, l .most (pathsFound call) disjoint, paths-counted)
 
   -- ---- demand 3
@@ -182,7 +182,7 @@ module _ (call : Call) (accepted : outcome call .refusal ≡ 0) where
   demand-3 =
       record {
         largest = some-largest valid;
-        one-largest = largest-unique (call .site);
+        one-largest = λ M M′. largest-unique;
         rounds = λ M l. rounds M l (r .outcome);
         messages = log-bytes (runOf call .log) ∙ omega (arith, messages-sent, ap length log-is);
         over-steps = rw log-is (r .orderly .over-steps);
@@ -192,7 +192,7 @@ module _ (call : Call) (accepted : outcome call .refusal ≡ 0) where
         bound = rw (messages-sent, rounds-started) (r .bound);
         ends = rw run (r .ends);
         log-fits = omega (arith, log-bytes (runOf call .log), ap length log-is, within-budget, room .log);
-        paths-fit = omega (arith, path-bytes (pathsFound call), few-radios-in (call .site) valid (pathsFound call) disjoint, paths-counted, at-most, room .paths);
+        paths-fit = omega (arith, path-bytes (pathsFound call), few-bytes (call .site) valid (pathsFound call) disjoint, paths-counted, at-most, room .paths);
         cut-fits = fits (decLt (outcome call .paths) (call .k));
       }
     where
@@ -200,7 +200,7 @@ module _ (call : Call) (accepted : outcome call .refusal ≡ 0) where
           → ((r .last .found ≡ call .k) × (r .last .round ≡ call .k)) ⊎ ((r .last .found < call .k) × (r .last .round ≡ suc (r .last .found)) × Shut (networkOf (call .site)) (r .last .marks) (r .last .entered))
           → outcome call .rounds ≡ min (call .k) (M + 1)
       rounds M l (inl w) = omega (arith, rounds-started, w .0, w .1, l .most (pathsFound call) disjoint, paths-counted, paths-found)
-      rounds M l (inr w) = omega (arith, rounds-started, w .0, w .1, largest-unique (call .site) M (r .last .found) l (largest valid (r .flow) (w .2)))
+      rounds M l (inr w) = omega (arith, rounds-started, w .0, w .1, largest-unique l (largest valid (r .flow) (w .2)))
 
       fits : Dec (outcome call .paths < call .k) → length (cutFound call) ≤ call .cutLength
       fits (yes p) = omega (arith, ap length (cut-short (omega (arith, paths-found))), cut-number valid (r .flow) (shut p), paths-found, room .cut)

@@ -75,9 +75,9 @@ module _ {site : Site} (valid : Valid site) {p : ℕ} {m : Marks} (flow : Flow (
   unfolding A
   dones-few = omega (
     arith,
-    all-trails (starts site m) (starts-marked valid flow),
-    trails-few flow (lines valid flow) (map inHalf (starts site m)) (different-halves (starts site m) (starts-different valid flow)) marked,
+    all-trails (starts site m) (starts-marked site m),
+    trails-few flow (lines valid flow) (map inHalf (starts site m)) (different-halves (starts site m) (starts-different site m)) marked,
   )
     where
       marked : (z : ℕ) → among z (map inHalf (starts site m)) ≡ true → m (outHalf (site .S)) z ≡ true
-      marked z h = let w = halves-of z (starts site m) h in rw (w .2) (starts-marked valid flow (w .0) (w .1))
+      marked z h = let w = halves-of z (starts site m) h in rw (w .2) (starts-marked site m (w .0) (w .1))

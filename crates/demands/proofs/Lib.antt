@@ -4,4 +4,5 @@ pub mod Told
 pub mod Tokens
 pub mod Rounds
 pub mod Whole
+pub mod First
 pub mod Demands

@@ -22,7 +22,7 @@ use Rattle.menger.proofs.Network.{Split, walkable}
 use Rattle.menger.proofs.Walks.{walk-cases, one-end}
 use Rattle.routes.proofs.Trails.{networkOf}
 use Rattle.rounds.proofs.Shows.{inRound, hit, tokenTo, tokens, Due, dueAfter, Answered}
-use Rattle.outcome.specs.Demand3.{isToken, isReply, sentIn, tokensIn, repliesIn}
+use Rattle.demands.specs.Demand3.{isToken, isReply, sentIn, tokensIn, repliesIn}
 
 -- ---- one log after another
 

@@ -112,7 +112,7 @@ module _ {site : Site} (valid : Valid site) (k : ℕ) (wanted : 0 < k)
       dones = donesOf site (r .last .marks) (starts site (r .last .marks))
 
       read : walked site (inRound (r .last .round) dones) ≡ record { onward = []; paths = pathsFrom site (r .last .marks) }
-      read = read-all site (r .last .marks) (r .last .round) (not-the-source (split-of site valid) (r .flow)) (onward-marked valid (r .flow)) (starts site (r .last .marks)) (starts-marked valid (r .flow))
+      read = read-all site (r .last .marks) (r .last .round) (not-the-source (split-of site valid) (r .flow)) (onward-marked valid (r .flow)) (starts site (r .last .marks)) (starts-marked site (r .last .marks))
 
       some : ((r .last .found ≡ k) × (r .last .round ≡ k)) ⊎ ((r .last .found < k) × (r .last .round ≡ suc (r .last .found)) × Shut (networkOf site) (r .last .marks) (r .last .entered)) → 1 ≤ r .last .round
       some (inl w) = omega (arith, w .1)

@@ -1,4 +1,1 @@
 pub mod Leaves
-pub mod Demand1
-pub mod Demand2
-pub mod Demand3

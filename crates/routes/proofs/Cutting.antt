@@ -1,31 +1,30 @@
 -- A round that failed leaves a cut: one item for each path, and every path of the map meets one. Assumes nothing.
 use mathlib.Core.Path.{_≡_, refl, sym, ap, _∙_}
 use mathlib.Core.Bool.{Bool, true, false, cond}
-use mathlib.Core.List.{List, [], _∷_, map, map-map}
+use mathlib.Core.List.{List, [], _∷_, map-map}
 use mathlib.Core.Logic.{_⊎_, inl, inr}
-use Prim.Native.Nat.{ℕ, _+_, _*_, _<_}
-use native.Mathlib.Omega.{arith}
+use Prim.Native.Nat.{ℕ, _<_}
 use lib.Dec.{eqb}
 use lib.ListN.{length, length-map}
 use borrow.Author.Tests.{eqb-true, eqb-false}
 use Rattle.basics.specs.Lists.{InOrder, among, Different, All, AnyTwo}
 use Rattle.basics.proofs.Bools.{clash, not-true→false}
 use Rattle.basics.proofs.Lists.{_⊆_, among-nil, among-here, among-there, among-cases, among-map}
-use Rattle.site.specs.Map.{Site, link, inHalf, outHalf, radioOf, isOut, step}
+use Rattle.site.specs.Map.{Site, inHalf, outHalf, radioOf, isOut, step}
 use Rattle.site.specs.Paths.{LeadsToT, Path, Disjoint, CutItem, Meets, Cut}
 use Rattle.site.proofs.Steps.{Step, inside, over, step-of, inside-step, over-step, linked-says, in-is-not-out, out-is-out, radio-of-in, radio-of-out}
 use Rattle.site.proofs.Valid.{Valid}
 use Rattle.tokens.specs.Run.{atLink, cutItem, itemOf, cutOf}
 use Rattle.menger.proofs.Network.{Marks, Shut}
 use Rattle.menger.proofs.Flow.{Flow}
-use Rattle.menger.proofs.Trail.{trailFrom, Back, Beside, led}
+use Rattle.menger.proofs.Trail.{Back, Beside, led}
 use Rattle.menger.proofs.Leaving.{none-enters, on-a-trail}
 use Rattle.routes.proofs.Duality.{meets-one, leads-to-T}
 use Rattle.routes.proofs.Radios.{radios-in, radios-out}
 use Rattle.routes.proofs.Split.{split-of}
-use Rattle.routes.proofs.Starts.{marked-starts}
+use Rattle.routes.proofs.Starts.{marked-starts, start-of}
 use Rattle.routes.proofs.FromFlow.{lines, whole, paths-disjoint, paths-number}
-use Rattle.routes.proofs.Trails.{networkOf, onward, trailOf, radiosOf, pathOf, starts, pathsFrom}
+use Rattle.routes.proofs.Trails.{networkOf, trailOf, radiosOf, pathOf, starts, pathsFrom}
 
 -- ---- the item of a step
 
@@ -43,9 +42,9 @@ item-over site u v = rw (out-is-out u, radio-of-out u, radio-of-in v)
 
 -- ---- every path of the map leaves R
 
-module _ {site : Site} (valid : Valid site) (R : ℕ → Bool) (source-in : R (outHalf (site .S)) ≡ true) (goal-out : R (inHalf (site .T)) ≡ false) where
+module _ {site : Site} (valid : Valid site) {m : Marks} {R : ℕ → Bool} (shut : Shut (networkOf site) m R) where
   -- the path leaves R over a step that the item names
-  record Leaves (p : List ℕ) (item : ℕ) : Type 0 where
+  record LeavesAt (p : List ℕ) (item : ℕ) : Type 0 where
     from : ℕ
     to : ℕ
     over : step site from to ≡ true
@@ -57,7 +56,7 @@ module _ {site : Site} (valid : Valid site) (R : ℕ → Bool) (source-in : R (o
 
   -- radio u of the path p, its out half in R, and the radios after it
   leave : (p : List ℕ) (u : ℕ) (rest : List ℕ) → LeadsToT site u rest → R (outHalf u) ≡ true → u < site .n → (u ≡ site .T → ⊥) → among u p ≡ true → rest ⊆ p → ((x : ℕ) → among x rest ≡ true → x ≡ site .S → ⊥)
-      → (u ≡ site .S → (r : List ℕ) → rest ≡ site .T ∷ r → p ≡ site .S ∷ site .T ∷ []) → Leaves p (cutItem site R u rest)
+      → (u ≡ site .S → (r : List ℕ) → rest ≡ site .T ∷ r → p ≡ site .S ∷ site .T ∷ []) → LeavesAt p (cutItem site R u rest)
   unfolding cutItem
   leave p u [] w i below not-T on after no-S direct = absurd (not-T w)
   leave p u (v ∷ rest) w i below not-T on after no-S direct =
@@ -80,21 +79,21 @@ module _ {site : Site} (valid : Valid site) (R : ℕ → Bool) (source-in : R (o
           let from-S : u ≡ site .S = eqb-true _ _ f in
           (inr (refl, rw (from-S, to-T) at (w .0)), inr (refl, direct from-S rest (rw to-T)))
 
-      go : (a : Bool) → R (inHalf v) ≡ a → (b : Bool) → R (outHalf v) ≡ b → (R (outHalf v) ≡ true → (v ≡ site .T → ⊥) → Leaves p (cutItem site R v rest))
-          → Leaves p (cond a (cond b (cutItem site R v rest) v) (atLink (eqb v (site .T)) (eqb u (site .S)) u v))
+      go : (a : Bool) → R (inHalf v) ≡ a → (b : Bool) → R (outHalf v) ≡ b → (R (outHalf v) ≡ true → (v ≡ site .T → ⊥) → LeavesAt p (cutItem site R v rest))
+          → LeavesAt p (cond a (cond b (cutItem site R v rest) v) (atLink (eqb v (site .T)) (eqb u (site .S)) u v))
       go false e b f ih =
           let item = across (eqb v (site .T)) (eqb u (site .S)) refl refl in
           record { from = outHalf u; to = inHalf v; over = over-step site u v (w .0) not-T v-not-S; in-R = i; not-in-R = e; named = sym (item-over site u v); sound = item .0; meets = item .1 }
       go true e false f ih =
-          let v-not-T : v ≡ site .T → ⊥ = λ q. clash (rw q at e) goal-out in
+          let v-not-T : v ≡ site .T → ⊥ = λ q. clash (rw q at e) (shut .goal-out) in
           record { from = inHalf v; to = outHalf v; over = inside-step site v v-below v-not-S v-not-T; in-R = e; not-in-R = f; named = sym (item-inside site v); sound = inl (v-below, v-not-S, v-not-T); meets = inl (v-below, v-on) }
-      go true e true f ih = ih f (λ (q : v ≡ site .T). clash (rw q at e) goal-out)
+      go true e true f ih = ih f (λ (q : v ≡ site .T). clash (rw q at e) (shut .goal-out))
 
   -- a path of the map leaves R at its item
-  path-leaves : (p : List ℕ) → Path site p → Leaves p (itemOf site R p)
+  path-leaves : (p : List ℕ) → Path site p → LeavesAt p (itemOf site R p)
   unfolding itemOf
   path-leaves p path =
-      rw (path .from-S) (leave (site .S ∷ rest) (site .S) rest (path .to-T) source-in (valid .S-below) (valid .ends-differ) (among-here (site .S) rest) (λ x h. among-there x (site .S) rest h)
+      rw (path .from-S) (leave (site .S ∷ rest) (site .S) rest (path .to-T) (shut .source-in) (valid .S-below) (valid .ends-differ) (among-here (site .S) rest) (λ x h. among-there x (site .S) rest h)
       (λ x h e. clash (rw e at h) (once .0)) (λ e r f. rw f (ap (λ (end : List ℕ). site .S ∷ site .T ∷ end) (last r f))))
     where
       rest : List ℕ
@@ -125,7 +124,7 @@ module _ {site : Site} (valid : Valid site) (R : ℕ → Bool) (source-in : R (o
   items-different [] each two = tt
   items-different (p ∷ ps) each two = (not-true→false _ (new ps (each .1) (two .0)), items-different ps (each .1) (two .1))
     where
-      leaves : Leaves p (itemOf site R p)
+      leaves : LeavesAt p (itemOf site R p)
       leaves = path-leaves p (each .0)
 
       new : (qs : List (List ℕ)) → All (Path site) qs → All (Disjoint site p) qs → among (itemOf site R p) (cutOf site R qs) ≡ true → ⊥
@@ -204,29 +203,20 @@ module _ {site : Site} (valid : Valid site) {p : ℕ} {m : Marks} (flow : Flow (
   -- the item of a path of the map is that of one of the paths that DONE walks
   found : (q : List ℕ) → Path site q → among (itemOf site R q) (cutOf site R (pathsFrom site m)) ≡ true
   unfolding trailOf pathsFrom
-  found q path = go (on-a-trail flow shut (split-of site valid) (lines valid flow) (leaves .from) (leaves .to) (leaves .over) (leaves .in-R) (leaves .not-in-R))
-    where
-      leaves : Leaves valid R (shut .source-in) (shut .goal-out) q (itemOf site R q)
-      leaves = path-leaves valid R (shut .source-in) (shut .goal-out) q path
-
-      on : (v : ℕ) → v < site .n → m (outHalf (site .S)) (inHalf v) ≡ true → Beside (leaves .from) (leaves .to) (trailOf site m v) → among (itemOf site R q) (map (itemOf site R) (map (pathOf site m) (starts site m))) ≡ true
-      on v below e b =
-          rw (leaves .named, ← path-item v (leaves .from) (leaves .to) e b (leaves .in-R) (leaves .not-in-R), map-map (itemOf site R) (pathOf site m) (starts site m))
-          (among-map (λ w. itemOf site R (pathOf site m w)) v (starts site m) (marked-starts valid flow v below e))
-
-      go : (z : ℕ) × (m (outHalf (site .S)) z ≡ true) × Beside (leaves .from) (leaves .to) (trailFrom (networkOf site) (onward site m) z) → among (itemOf site R q) (map (itemOf site R) (map (pathOf site m) (starts site m))) ≡ true
-      go t = by (step-of site (outHalf (site .S)) (t .0) (flow .on-steps (outHalf (site .S)) (t .0) (t .1)))
-        where
-          by : Step site (outHalf (site .S)) (t .0) → among (itemOf site R q) (map (itemOf site R) (map (pathOf site m) (starts site m))) ≡ true
-          by (inside v x y below ns nt) = absurd (omega arith)
-          by (over u v x y l nt ns) = on v (linked-says site u v l .to-below) (rw y at (t .1)) (rw y at (t .2))
+  found q path =
+      let leaves = path-leaves valid shut q path in
+      let t = on-a-trail flow shut (split-of site valid) (lines valid flow) (leaves .from) (leaves .to) (leaves .over) (leaves .in-R) (leaves .not-in-R) in
+      let start = start-of valid flow (t .0) (t .1) in
+      let marked : m (outHalf (site .S)) (inHalf (start .0)) ≡ true = rw (start .1) at (t .1) in
+      rw (leaves .named, ← path-item (start .0) (leaves .from) (leaves .to) marked (rw (start .1) at (t .2)) (leaves .in-R) (leaves .not-in-R), map-map (itemOf site R) (pathOf site m) (starts site m))
+      (among-map (λ v. itemOf site R (pathOf site m v)) (start .0) (starts site m) (marked-starts site m (start .0) (start .2) marked))
 
   -- the items are a cut
   pub cut : Cut site (cutOf site R (pathsFrom site m))
   cut = record {
-    each = items-sound valid R (shut .source-in) (shut .goal-out) (pathsFrom site m) (paths-disjoint valid flow .each);
-    different = items-different valid R (shut .source-in) (shut .goal-out) (pathsFrom site m) (paths-disjoint valid flow .each) (paths-disjoint valid flow .two);
-    met = λ q path. (itemOf site R q, found q path, path-leaves valid R (shut .source-in) (shut .goal-out) q path .meets);
+    each = items-sound valid shut (pathsFrom site m) (paths-disjoint valid flow .each);
+    different = items-different valid shut (pathsFrom site m) (paths-disjoint valid flow .each) (paths-disjoint valid flow .two);
+    met = λ q path. (itemOf site R q, found q path, path-leaves valid shut q path .meets);
   }
 
   -- one item for each path
@@ -235,4 +225,4 @@ module _ {site : Site} (valid : Valid site) {p : ℕ} {m : Marks} (flow : Flow (
 
   -- in path order
   pub cut-in-order : InOrder (Meets site) (cutOf site R (pathsFrom site m)) (pathsFrom site m)
-  cut-in-order = items-in-order valid R (shut .source-in) (shut .goal-out) (pathsFrom site m) (paths-disjoint valid flow .each)
+  cut-in-order = items-in-order valid shut (pathsFrom site m) (paths-disjoint valid flow .each)

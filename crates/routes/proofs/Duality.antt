@@ -59,12 +59,12 @@ module _ (site : Site) (small : site .n ≤ 64) where
 -- ---- the largest number
 
 -- there is one largest number
-pub largest-unique : (site : Site) (M M′ : ℕ) → Largest site M → Largest site M′ → M ≡ M′
-largest-unique site M M′ most most′ = omega (arith, most .number, most′ .number, most .most (most′ .some) (most′ .good), most′ .most (most .some) (most .good))
+pub largest-unique : {site : Site} {M M′ : ℕ} → Largest site M → Largest site M′ → M ≡ M′
+largest-unique most most′ = omega (arith, most .number, most′ .number, most .most (most′ .some) (most′ .good), most′ .most (most .some) (most .good))
 
--- of a family of disjoint paths any smaller number is one too
-pub some-family : (site : Site) (ps : List (List ℕ)) → DisjointPaths site ps → (k : ℕ) → k ≤ length ps → (qs : List (List ℕ)) × (length qs ≡ k) × DisjointPaths site qs
-some-family site ps family k enough = (take k ps, length-take-le k ps enough, record { each = all-take (Path site) k ps (family .each); two = any-two-take (Disjoint site) k ps (family .two) })
+-- where there are so many disjoint paths there are any fewer
+pub some-family : {site : Site} {ps : List (List ℕ)} → DisjointPaths site ps → (k : ℕ) → k ≤ length ps → (qs : List (List ℕ)) × (length qs ≡ k) × DisjointPaths site qs
+some-family {site} {ps} family k enough = (take k ps, length-take-le k ps enough, record { each = all-take (Path site) k ps (family .each); two = any-two-take (Disjoint site) k ps (family .two) })
 
 -- ---- the radios of a path
 
@@ -171,9 +171,9 @@ module _ (site : Site) (valid : Valid site) where
   inner-count [] each = refl
   inner-count (p ∷ ps) each = omega (arith, inner-count ps (each .1), inner-length p (each .0), length-append (inner p) (innerOf ps))
 
-  -- the radios of disjoint paths, S and T counted in each, are at most n − 2 and two for each path
-  pub few-radios-in : (ps : List (List ℕ)) → DisjointPaths site ps → radiosIn ps + 2 ≤ site .n + 2 * length ps
-  few-radios-in ps family = omega (arith, inner-count ps (family .each), different-below (site .S ∷ site .T ∷ innerOf ps) (site .n) different below)
+  -- a list of disjoint paths has at most n − 2 radios and two more for each path
+  pub few-bytes : (ps : List (List ℕ)) → DisjointPaths site ps → radiosIn ps + 2 ≤ site .n + 2 * length ps
+  few-bytes ps family = omega (arith, inner-count ps (family .each), different-below (site .S ∷ site .T ∷ innerOf ps) (site .n) different below)
     where
       said : (x : ℕ) → among x (innerOf ps) ≡ true → (p : List ℕ) × Inner x p
       said x = inside-some x ps (family .each)

@@ -1,7 +1,6 @@
 -- Marks that are a flow of p units are p disjoint paths: those that DONE walks. Assumes nothing.
 use mathlib.Core.Path.{_≡_, _∙_}
 use mathlib.Core.Bool.{true}
-use mathlib.Core.List.{List}
 use Prim.Native.Nat.{ℕ}
 use native.Mathlib.Omega.{arith}
 use lib.ListN.{length, length-map}
@@ -28,7 +27,7 @@ module _ {site : Site} (valid : Valid site) {p : ℕ} {m : Marks} (flow : Flow (
   whole v e = arrives lines (inHalf v) e
 
   -- what DONE walks is a path
-  pub is-path : (v : ℕ) → m (outHalf (site .S)) (inHalf v) ≡ true → Path site (pathOf site m v)
+  is-path : (v : ℕ) → m (outHalf (site .S)) (inHalf v) ≡ true → Path site (pathOf site m v)
   unfolding pathOf
   is-path v e = trail-path site m (flow .on-steps) (inHalf v) (trailOf site m v) (whole v e)
 
@@ -42,8 +41,8 @@ module _ {site : Site} (valid : Valid site) {p : ℕ} {m : Marks} (flow : Flow (
   pub paths-disjoint : DisjointPaths site (pathsFrom site m)
   unfolding pathsFrom
   paths-disjoint = record {
-    each = all-map (Path site) (pathOf site m) (starts site m) (λ v h. is-path v (starts-marked valid flow v h));
-    two = any-two-map (Disjoint site) (pathOf site m) (starts site m) (starts-different valid flow) (λ v v′ h h′. are-disjoint v v′ (starts-marked valid flow v h) (starts-marked valid flow v′ h′));
+    each = all-map (Path site) (pathOf site m) (starts site m) (λ v h. is-path v (starts-marked site m v h));
+    two = any-two-map (Disjoint site) (pathOf site m) (starts site m) (starts-different site m) (λ v v′ h h′. are-disjoint v v′ (starts-marked site m v h) (starts-marked site m v′ h′));
   }
 
   -- a flow of p units has p paths

@@ -1,8 +1,8 @@
 -- Each path that DONE walks leaves the halves of a failed round exactly once. Assumes nothing.
-use mathlib.Core.Path.{_≡_, refl, ap, _∙_}
+use mathlib.Core.Path.{_≡_, refl, _∙_}
 use mathlib.Core.Bool.{Bool, true, false, not, _&&_, cond}
 use mathlib.Core.List.{List, [], _∷_}
-use Prim.Native.Nat.{ℕ, _+_, _*_}
+use Prim.Native.Nat.{ℕ, _+_}
 use native.Mathlib.Omega.{arith}
 use Rattle.basics.specs.Counting.{oneIf}
 use Rattle.basics.specs.Lists.{All}
@@ -66,7 +66,7 @@ module _ {site : Site} (valid : Valid site) {p : ℕ} {m : Marks} (flow : Flow (
   -- each path leaves R exactly once
   pub each-leaves-once : All (λ path. timesLeaving R path ≡ 1) (pathsFrom site m)
   unfolding pathsFrom pathOf
-  each-leaves-once = all-map (λ path. timesLeaving R path ≡ 1) (pathOf site m) (starts site m) (λ v h. go v (whole valid flow v (starts-marked valid flow v h)))
+  each-leaves-once = all-map (λ path. timesLeaving R path ≡ 1) (pathOf site m) (starts site m) (λ v h. go v (whole valid flow v (starts-marked site m v h)))
     where
       go : (v : ℕ) → Arrived (networkOf site) m (inHalf v) (trailOf site m v) → leavings R (site .S) (radiosOf (trailOf site m v) []) ≡ 1
       go v t = rw (t .shape) (so-far (inHalf (site .T)) (t .before ∷ t .rest) [] (t .back) ∙ rw (from-in R (site .T) [], shut .goal-out))

@@ -28,10 +28,10 @@ module _ {site : Site} (valid : Valid site) {p : ℕ} {m : Marks} (flow : Flow (
 
   -- no flow has more units than there are radios
   pub few-units : p ≤ site .n
-  few-units = omega (arith, starts-number valid flow, different-below (starts site m) (site .n) (starts-different valid flow) below)
+  few-units = omega (arith, starts-number valid flow, different-below (starts site m) (site .n) (starts-different site m) below)
     where
       below : (v : ℕ) → among v (starts site m) ≡ true → v < site .n
-      below v h = let w = marked-below (split-of site valid) flow (outHalf (site .S)) (inHalf v) (starts-marked valid flow v h) in omega (arith, w .1)
+      below v h = let w = marked-below (split-of site valid) flow (outHalf (site .S)) (inHalf v) (starts-marked site m v h) in omega (arith, w .1)
 
   -- where a round has failed, p is the largest number of disjoint paths
   pub largest : {R : ℕ → Bool} → Shut (networkOf site) m R → Largest site p

@@ -3,13 +3,13 @@ use mathlib.Core.Path.{_≡_, refl, sym, _∙_}
 use mathlib.Core.Bool.{true, cond}
 use mathlib.Core.List.{List, [], _∷_, head-eq-of-cons-eq, tail-eq-of-cons-eq}
 use mathlib.Core.Logic.{_⊎_, inl, inr}
-use Prim.Native.Nat.{ℕ, _+_, _*_, _/_, _%_}
+use Prim.Native.Nat.{ℕ, _%_}
 use native.Mathlib.Omega.{arith}
 use native.Mathlib.Decide.{ℕ-discrete}
 use Rattle.basics.specs.Lists.{among, Different}
 use Rattle.basics.proofs.Bools.{clash, not-true→false}
 use Rattle.basics.proofs.Lists.{among-nil, among-here, among-there, among-cases, among-one}
-use Rattle.site.specs.Map.{Site, link, inHalf, outHalf, radioOf, isOut, step}
+use Rattle.site.specs.Map.{Site, inHalf, outHalf, radioOf, isOut, step}
 use Rattle.site.specs.Paths.{LeadsToT, Path, Disjoint}
 use Rattle.site.proofs.Steps.{Step, inside, over, step-of, in-is-not-out, out-is-out, radio-of-in, radio-of-out}
 use Rattle.menger.proofs.Network.{Marks}

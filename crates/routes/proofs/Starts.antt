@@ -1,9 +1,9 @@
 -- Where the paths of a flow start and how DONE goes on: as many starts as units, and from every half that it comes to a marked step on. Assumes nothing.
-use mathlib.Core.Path.{_≡_, refl, ap, _∙_}
+use mathlib.Core.Path.{_≡_, refl, ap}
 use mathlib.Core.Bool.{Bool, true, false, cond}
 use mathlib.Core.List.{_∷_}
 use mathlib.Core.Logic.{_⊎_, inl, inr}
-use Prim.Native.Nat.{ℕ, zero, suc, _+_, _*_, _≤_, _<_}
+use Prim.Native.Nat.{ℕ, zero, suc, _+_, _≤_, _<_}
 use native.Mathlib.Omega.{arith}
 use native.Mathlib.Decide.{ℕ-discrete}
 use lib.ListN.{length}
@@ -12,7 +12,7 @@ use Rattle.basics.specs.Lists.{among, Different}
 use Rattle.basics.proofs.Bools.{clash, not-true→false}
 use Rattle.basics.proofs.Counting.{sum-ext, sum-pairs, first-passes}
 use Rattle.basics.proofs.Lists.{among-nil, among-here, among-there, among-cases}
-use Rattle.site.specs.Map.{Site, inHalf, outHalf, isOut, step}
+use Rattle.site.specs.Map.{Site, inHalf, outHalf}
 use Rattle.site.proofs.Steps.{Step, inside, over, step-of, step-to-out, linked-says, in-is-not-out, out-is-out}
 use Rattle.site.proofs.Valid.{Valid}
 use Rattle.tokens.specs.Rules.{nextMarked}
@@ -73,9 +73,26 @@ module _ (test : ℕ → Bool) where
       go true e ih = omega (arith, ap oneIf e, ap (count test) same)
       go false e ih = omega (arith, ap oneIf e, ap (count test) same)
 
--- ---- where DONE goes
-
 module _ (site : Site) (m : Marks) where
+  -- ---- the radios that S sends DONE to
+
+  -- each has a marked step from S
+  pub starts-marked : (v : ℕ) → among v (starts site m) ≡ true → m (outHalf (site .S)) (inHalf v) ≡ true
+  unfolding starts
+  starts-marked v h = passing-says (λ v. m (outHalf (site .S)) (inHalf v)) v 0 (site .n) h .0
+
+  -- each with a marked step from S is one
+  pub marked-starts : (v : ℕ) → v < site .n → m (outHalf (site .S)) (inHalf v) ≡ true → among v (starts site m) ≡ true
+  unfolding starts
+  marked-starts v below e = passing-holds (λ v. m (outHalf (site .S)) (inHalf v)) v 0 (site .n) e (omega arith) (omega arith)
+
+  -- none is there twice
+  pub starts-different : Different (starts site m)
+  unfolding starts
+  starts-different = passing-different (λ v. m (outHalf (site .S)) (inHalf v)) 0 (site .n)
+
+  -- ---- where DONE goes
+
   -- an in half passes DONE to its own out half
   onward-in : (v : ℕ) → onward site m (inHalf v) ≡ outHalf v
   unfolding onward
@@ -92,22 +109,6 @@ module _ (site : Site) (m : Marks) where
   next-found h v below e = first-passes (λ w. m h (inHalf w)) v (site .n) below e
 
 module _ {site : Site} (valid : Valid site) {p : ℕ} {m : Marks} (flow : Flow (networkOf site) p m) where
-  -- ---- the starts
-
-  -- the starts are the radios with a marked step from S
-  pub starts-marked : (v : ℕ) → among v (starts site m) ≡ true → m (outHalf (site .S)) (inHalf v) ≡ true
-  unfolding starts
-  starts-marked v h = passing-says (λ v. m (outHalf (site .S)) (inHalf v)) v 0 (site .n) h .0
-
-  pub marked-starts : (v : ℕ) → v < site .n → m (outHalf (site .S)) (inHalf v) ≡ true → among v (starts site m) ≡ true
-  unfolding starts
-  marked-starts v below e = passing-holds (λ v. m (outHalf (site .S)) (inHalf v)) v 0 (site .n) e (omega arith) (omega arith)
-
-  -- no start twice
-  pub starts-different : Different (starts site m)
-  unfolding starts
-  starts-different = passing-different (λ v. m (outHalf (site .S)) (inHalf v)) 0 (site .n)
-
   -- a flow of p units has p starts
   pub starts-number : length (starts site m) ≡ p
   unfolding starts sum
@@ -126,7 +127,13 @@ module _ {site : Site} (valid : Valid site) {p : ℕ} {m : Marks} (flow : Flow (
       none-out : (v : ℕ) → m (outHalf (site .S)) (outHalf v) ≡ false
       none-out v = not-true→false _ (λ e. clash (flow .on-steps _ _ e) (step-to-out site (site .S) v))
 
-  -- ---- the way on
+  -- a marked step from S leads to the in half of a radio
+  pub start-of : (z : ℕ) → m (outHalf (site .S)) z ≡ true → (v : ℕ) × (z ≡ inHalf v) × (v < site .n)
+  start-of z e = go (step-of site (outHalf (site .S)) z (flow .on-steps (outHalf (site .S)) z e))
+    where
+      go : Step site (outHalf (site .S)) z → (v : ℕ) × (z ≡ inHalf v) × (v < site .n)
+      go (inside v x y below ns nt) = absurd (omega arith)
+      go (over u v x y l nt ns) = (v, y, linked-says site u v l .to-below)
 
   -- where DONE comes to, but T's in half, the step that it takes next is marked
   pub onward-marked : (a h : ℕ) → m a h ≡ true → (h ≡ inHalf (site .T) → ⊥) → m h (onward site m h) ≡ true

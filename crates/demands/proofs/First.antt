@@ -8,8 +8,8 @@ use native.Mathlib.Nat.{sub-zero}
 use borrow.Author.Tests.{ne-eqb}
 use Rattle.site.specs.Refusals.{Call, verdict, number}
 use Rattle.site.proofs.Exactly as exactly
 use Rattle.outcome.specs.Leaves.{zerosAfter, outcome, logLeft, pathsLeft, cutLeft}
-use Rattle.outcome.specs.Demand1.{NothingLeft, Demand1}
+use Rattle.demands.specs.Demand1.{NothingLeft, Demand1}
 use Prim.Native.Nat.{ℕ}
 
 all-zeros : (size : ℕ) → zerosAfter size [] ≡ replicate size 0
