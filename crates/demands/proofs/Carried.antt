@@ -95,7 +95,8 @@ pub record AllCarried (site : Site) (k : ℕ) (notes : Notes) (state : State) (r
   pub end : State
   pub leads : Leads site k state (inRound (notes .round) (donesOf site (notes .marks) radios)) end
   pub ends : innerStep site k end ≡ over
-  pub told : ((radios ≡ []) × (end ≡ state)) ⊎ (notesOf end ≡ notes)
+  -- the last DONE has come to T
+  pub at-T : ((radios ≡ []) × (end ≡ state)) ⊎ ((v : ℕ) × (end ≡ carrying v (inHalf (site .T)) notes))
 
 -- ---- what is known where DONE is carried: the marked steps go on to T
 
@@ -147,7 +148,7 @@ module _ (site : Site) (k : ℕ) (notes : Notes)
   -- S goes through the radios from v on, of which f are left
   from : (f v : ℕ) (state : State) → v + f ≡ site .n → innerStep site k state ≡ release site v notes → AllCarried site k notes state (passing marked v f)
   unfolding passing release passOn donesOf marked trailOf
-  from zero v state e next = record { end = state; leads = refl; ends = next ∙ none; told = inl (refl, refl) }
+  from zero v state e next = record { end = state; leads = refl; ends = next ∙ none; at-T = inl (refl, refl) }
     where
       none : release site v notes ≡ over
       none = rw (next-none site (notes .marks) (outHalf (site .S)) v (omega arith), le-ltb v (site .n) (omega arith))
@@ -172,12 +173,12 @@ module _ (site : Site) (k : ℕ) (notes : Notes)
                       (leads-on site k (carrying v (inHalf v) notes) (carrying v (inHalf (site .T)) notes) (rest .end) (inRound (notes .round) (donesFrom site (notes .marks) (2 * site .n) (inHalf v))) (inRound (notes .round) (donesOf site (notes .marks) (passing marked (suc v) f))) (along v (2 * site .n) (inHalf v) (outHalf (site .S) ∷ []) (outHalf (site .S)) m (arrive v m)) (rest .leads)),
                 );
                 ends = rest .ends;
-                told = inr (keeps (rest .told));
+                at-T = inr (arrived (rest .at-T));
               }
             where
-              keeps : ((passing marked (suc v) f ≡ []) × (rest .end ≡ carrying v (inHalf (site .T)) notes)) ⊎ (notesOf (rest .end) ≡ notes) → notesOf (rest .end) ≡ notes
-              keeps (inl w) = ap notesOf (w .1)
-              keeps (inr w) = w
+              arrived : ((passing marked (suc v) f ≡ []) × (rest .end ≡ carrying v (inHalf (site .T)) notes)) ⊎ ((w : ℕ) × (rest .end ≡ carrying w (inHalf (site .T)) notes)) → (w : ℕ) × (rest .end ≡ carrying w (inHalf (site .T)) notes)
+              arrived (inl w) = (v, w .1)
+              arrived (inr w) = w
       go false m ih = ih state (next ∙ rw (next-further site (notes .marks) (outHalf (site .S)) v (omega arith) m))
 
   -- S goes through all radios

@@ -10,19 +10,24 @@ use native.Mathlib.Decide.{decLt}
 use lib.Dec.{eqb, ltb}
 use lib.ListN.{length, length-append}
 use borrow.Author.Tests.{eq-eqb, lt-ltb, le-ltb}
-use Rattle.site.specs.Map.{Site, A}
+use Rattle.basics.specs.Lists.{All}
+use Rattle.site.specs.Map.{Site, inHalf, outHalf, A}
 use Rattle.site.specs.Paths.{DisjointPaths, Largest}
 use Rattle.site.specs.Refusals.{Call, mostMessages, verdict, number}
 use Rattle.site.proofs.Valid.{Valid, Room, accepted-valid, accepted-room}
-use Rattle.tokens.specs.Rules.{Notes, innerStep, start}
+use Rattle.tokens.specs.Rules.{Notes, won, carrying, start}
 use Rattle.tokens.specs.Run.{Entry, Run, notesOf, runFrom, pathsOf, cutOf}
 use Rattle.menger.proofs.Network.{Shut}
 use Rattle.menger.proofs.Flow.{Flow}
+use Rattle.menger.proofs.Units.{one-out}
 use Rattle.routes.proofs.Trails.{networkOf, pathsFrom}
 use Rattle.routes.proofs.FromFlow.{paths-disjoint, paths-number}
 use Rattle.routes.proofs.Duality.{largest-unique, radiosIn, few-bytes}
 use Rattle.routes.proofs.Cutting.{cut, cut-number, cut-in-order}
+use Rattle.routes.proofs.LeavesOnce.{timesLeaving, each-leaves-once}
+use Rattle.routes.proofs.Split.{split-of}
 use Rattle.routes.proofs.Most.{few-units, largest}
+use Rattle.rounds.proofs.Shows.{Leads}
 use Rattle.rounds.proofs.Depth.{round-played}
 use Rattle.outcome.specs.Leaves.{runOf, pathsFound, cutFound, logBytes, pathBytes, outcome}
 use Rattle.demands.specs.Demand2.{Demand2}
@@ -205,3 +210,29 @@ module _ (call : Call) (accepted : outcome call .refusal ≡ 0) where
       fits : Dec (outcome call .paths < call .k) → length (cutFound call) ≤ call .cutLength
       fits (yes p) = omega (arith, ap length (cut-short (omega (arith, paths-found))), cut-number valid (r .flow) (shut p), paths-found, room .cut)
       fits (no p) = omega (arith, ap length (demand-2 .full (omega (arith, at-most))))
+
+  -- ---- the token rules
+
+  -- after every round that S has won the marks are a flow of as many units as paths are found
+  pub won-rounds-flow : (opening : List Entry) (after : Notes) → Leads (call .site) (call .k) (start (call .site)) opening (won after) → Flow (networkOf (call .site)) (after .found) (after .marks)
+  won-rounds-flow = r .each-won
+
+  -- so are they at the end of the run
+  pub last-marks-flow : Flow (networkOf (call .site)) (outcome call .paths) (notesOf (runOf call .last) .marks)
+  last-marks-flow = rw (paths-found, notes-are) (r .flow)
+
+  -- a failed round's entered halves are closed under the steps that can be walked
+  pub lost-round-shut : outcome call .paths < call .k → Shut (networkOf (call .site)) (notesOf (runOf call .last) .marks) (notesOf (runOf call .last) .entered)
+  lost-round-shut p = rw notes-are (shut p)
+
+  -- each path leaves them exactly once
+  pub each-path-leaves-once : outcome call .paths < call .k → All (λ (path : List ℕ). timesLeaving (notesOf (runOf call .last) .entered) path ≡ 1) (pathsFound call)
+  each-path-leaves-once p = rw (paths-are, notes-are) (each-leaves-once valid (r .flow) (shut p))
+
+  -- an out half that has DONE has one marked link step and no other
+  pub one-marked-link : (h a b : ℕ) → (h ≡ outHalf (call .site .S) → ⊥) → notesOf (runOf call .last) .marks h a ≡ true → notesOf (runOf call .last) .marks h b ≡ true → a ≡ b
+  one-marked-link h a b not-S = rw notes-are (λ (e : r .last .marks h a ≡ true) (f : r .last .marks h b ≡ true). one-out (split-of (call .site) valid) (r .flow) h a b e f not-S)
+
+  -- the run ends with DONE at T, unless there is no path: DONE never fails on its way
+  pub done-comes-to-T : (outcome call .paths ≡ 0) ⊎ ((v : ℕ) × (runOf call .last ≡ carrying v (inHalf (call .site .T)) (notesOf (runOf call .last))))
+  done-comes-to-T = rw (paths-found, notes-are, run) (r .at-T)

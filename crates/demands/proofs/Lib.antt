@@ -2,6 +2,7 @@ pub mod Carried
 pub mod Few
 pub mod Told
 pub mod Tokens
+pub mod Opening
 pub mod Rounds
 pub mod Whole
 pub mod First

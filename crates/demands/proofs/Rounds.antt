@@ -6,6 +6,7 @@ use mathlib.Core.Logic.{_⊎_, inl, inr}
 use Prim.Native.Nat.{ℕ, zero, suc, _+_, _*_, _≤_, _<_}
 use native.Mathlib.Nat.{mul-suc}
 use native.Mathlib.Omega.{arith}
+use native.Mathlib.Decide.{decLt}
 use lib.Dec.{ltb}
 use lib.ListN.{length, length-append}
 use borrow.Author.Tests.{lt-ltb, le-ltb}
@@ -19,6 +20,7 @@ use Rattle.routes.proofs.Trails.{networkOf}
 use Rattle.routes.proofs.Split.{split-of}
 use Rattle.rounds.proofs.Shows.{Leads, inRound, Won, Lost, Played}
 use Rattle.demands.proofs.Carried.{leads-on, in-round-length}
+use Rattle.demands.proofs.Opening.{opens, one-round, won-at-the-end}
 use Rattle.demands.proofs.Told.{round-silent}
 use Rattle.demands.proofs.Tokens.{Orderly, round-orderly, later-rounds}
 
@@ -37,6 +39,8 @@ pub record AllPlayed (site : Site) (k : ℕ) (state : State) (notes : Notes) : T
   pub more : notes .found ≤ last .found
   -- all k paths are found, or the last round was lost
   pub outcome : ((last .found ≡ k) × (last .round ≡ k)) ⊎ ((last .found < k) × (last .round ≡ suc (last .found)) × Shut (networkOf site) (last .marks) (last .entered))
+  -- whenever a round has been won on the way, the marks are a flow of as many units as paths are found
+  pub each-won : (opening : List Entry) (after : Notes) → Leads site k state opening (won after) → 0 < length opening → length opening ≤ length log → Flow (networkOf site) (after .found) (after .marks)
   -- where no path is found the state tells the last notes, unless nothing was sent
   pub told : last .found ≡ 0 → ((end ≡ state) × (last ≡ notes)) ⊎ (notesOf end ≡ last)
 
@@ -47,6 +51,25 @@ module _ (site : Site) (valid : Valid site) (k : ℕ)
 
   sent : (notes : Notes) (state : State) (p : Played site k state notes) → length (inRound (notes .round) (p .log)) ≤ 2 * A site
   sent notes state p = omega (arith, in-round-length (notes .round) (p .log), p .few)
+
+  -- the marks where this round was won
+  won-flow : (state : State) (notes : Notes) (p : Played site k state notes) → Flow (networkOf site) (notes .found) (notes .marks)
+      → (opening : List Entry) (after : Notes) → Leads site k state opening (won after) → 0 < length opening → length opening ≤ length (inRound (notes .round) (p .log)) → Flow (networkOf site) (after .found) (after .marks)
+  won-flow state notes p flow opening after leads some shorter = cases (p .result)
+    where
+      parts : (rest : List Entry) × (inRound (notes .round) (p .log) ≡ opening ++ rest) × Leads site k (won after) rest (p .end)
+      parts = opens site k state opening (inRound (notes .round) (p .log)) (won after) (p .end) leads (p .leads) shorter
+
+      at-end : won after ≡ p .end
+      at-end = won-at-the-end site k (notes .round) state opening (parts .0) after (p .end) some leads (parts .2) (rw (parts .1) at (one-round (notes .round) (p .log) (λ x y. 0) (p .answered)))
+
+      told : (l : Lost site k state (p .log) notes (p .end)) → ((p .log ≡ []) × (p .end ≡ state) × (l .after ≡ notes)) ⊎ (notesOf (p .end) ≡ l .after) → Flow (networkOf site) (after .found) (after .marks)
+      told l (inl w) = absurd (omega (arith, in-round-length (notes .round) (p .log), ap length (w .0)))
+      told l (inr w) = rw (ap notesOf at-end ∙ w, l .same-found, l .same-marks) flow
+
+      cases : Won site notes (p .end) ⊎ Lost site k state (p .log) notes (p .end) → Flow (networkOf site) (after .found) (after .marks)
+      cases (inl w) = rw (ap notesOf (at-end ∙ w .is-won), w .one-more) (one-more (split-of site valid) flow (w .walked))
+      cases (inr l) = told l (l .told)
 
   -- a lost round is the last
   lost : (state : State) (notes : Notes) (p : Played site k state notes) → notes .found < k → notes .round ≡ suc (notes .found) → Flow (networkOf site) (notes .found) (notes .marks)
@@ -64,6 +87,7 @@ module _ (site : Site) (valid : Valid site) (k : ℕ)
         silent = round-silent site (notes .round) (p .log) (λ x y. 0) (p .answered);
         more = omega (arith, l .same-found);
         outcome = inr (omega (arith, l .same-found), omega (arith, l .same-found, l .same-round), rw (l .same-marks) (l .shut));
+        each-won = won-flow state notes p flow;
         told = λ none. tell (l .told);
       }
     where
@@ -88,12 +112,13 @@ module _ (site : Site) (valid : Valid site) (k : ℕ)
         silent = round-silent site (notes .round) (p .log) (λ x y. 0) (p .answered);
         more = omega (arith, w .one-more);
         outcome = inl (omega (arith, w .one-more), omega (arith, w .same-round));
+        each-won = won-flow state notes p flow;
         told = λ none. absurd (omega (arith, w .one-more));
       }
 
   -- any other won round is followed by the next
-  again : (state : State) (notes : Notes) (p : Played site k state notes) (w : Won site notes (p .end)) → AllPlayed site k (p .end) (begun site (w .after)) → AllPlayed site k state notes
-  again state notes p w rest =
+  again : (state : State) (notes : Notes) (p : Played site k state notes) (w : Won site notes (p .end)) → Flow (networkOf site) (notes .found) (notes .marks) → AllPlayed site k (p .end) (begun site (w .after)) → AllPlayed site k state notes
+  again state notes p w flow rest =
       record {
         log = inRound (notes .round) (p .log) ++ rest .log;
         end = rest .end;
@@ -113,8 +138,17 @@ module _ (site : Site) (valid : Valid site) (k : ℕ)
         silent = λ later. rw append-assoc (round-silent site (notes .round) (p .log) (λ x y. 0) (p .answered) (rest .log ++ later) ∙ rest .silent later);
         more = omega (arith, w .one-more, rest .more);
         outcome = rest .outcome;
+        each-won = λ opening after leads some shorter. earlier opening after leads some shorter (decLt (length (inRound (notes .round) (p .log))) (length opening));
         told = λ none. absurd (omega (arith, w .one-more, rest .more));
       }
+    where
+      earlier : (opening : List Entry) (after : Notes) → Leads site k state opening (won after) → 0 < length opening → length opening ≤ length (inRound (notes .round) (p .log) ++ rest .log)
+          → Dec (length (inRound (notes .round) (p .log)) < length opening) → Flow (networkOf site) (after .found) (after .marks)
+      earlier opening after leads some shorter (no q) = won-flow state notes p flow opening after leads some (omega arith)
+      earlier opening after leads some shorter (yes q) =
+          let parts = opens site k state (inRound (notes .round) (p .log)) opening (p .end) (won after) (p .leads) leads (omega arith) in
+          let sizes = ap length (parts .1) ∙ length-append (inRound (notes .round) (p .log)) (parts .0) in
+          rest .each-won (parts .0) after (parts .2) (omega arith) (omega (arith, length-append (inRound (notes .round) (p .log)) (rest .log)))
 
   -- so many rounds may still be won
   pub all-played : (f : ℕ) (state : State) (notes : Notes) → notes .found + suc f ≡ k → notes .round ≡ suc (notes .found) → Flow (networkOf site) (notes .found) (notes .marks)
@@ -138,7 +172,7 @@ module _ (site : Site) (valid : Valid site) (k : ℕ)
         where
           cases : Won site notes (p .end) ⊎ Lost site k state (p .log) notes (p .end) → AllPlayed site k state notes
           cases (inl w) =
-              again state notes p w
+              again state notes p w flow
               (rest (p .end) (begun site (w .after)) (omega (arith, w .one-more)) (omega (arith, w .one-more, w .same-round)) (rw (w .one-more) (one-more (split-of site valid) flow (w .walked)))
               (rw (w .is-won, lt-ltb (w .after .found) k (omega (arith, w .one-more)))) refl)
           cases (inr l) = lost state notes p (omega arith) numbered flow l

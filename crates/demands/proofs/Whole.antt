@@ -6,11 +6,12 @@ use mathlib.Core.Logic.{_⊎_, inl, inr}
 use Prim.Native.Nat.{ℕ, zero, suc, _+_, _-_, _*_, _≤_, _<_}
 use native.Mathlib.Nat.{add-mul, mul-suc, mul-right-comm}
 use native.Mathlib.Omega.{arith}
+use native.Mathlib.Decide.{decLt}
 use lib.ListN.{length, length-append}
 use Rattle.site.specs.Map.{Site, inHalf, outHalf, A}
 use Rattle.site.proofs.Valid.{Valid}
 use Rattle.tokens.specs.declared.Message.{Message}
-use Rattle.tokens.specs.Rules.{Notes, State, over, onlyS, begun, justS, search, innerStep, start}
+use Rattle.tokens.specs.Rules.{Notes, State, won, carrying, over, onlyS, begun, justS, search, innerStep, start}
 use Rattle.tokens.specs.Run.{Entry, Walked, notesOf, runOn, runFrom, walked, pathsOf}
 use Rattle.menger.proofs.Network.{Shut}
 use Rattle.menger.proofs.Flow.{Flow, no-flow}
@@ -22,6 +23,7 @@ use Rattle.routes.proofs.Trails.{networkOf, trailOf, starts, pathsFrom}
 use Rattle.rounds.proofs.Shows.{Leads, inRound, Played}
 use Rattle.demands.proofs.Carried.{leads-on, in-round-length, donesOf, all-done, standsAt, AllCarried, all-carried}
 use Rattle.demands.proofs.Few.{dones-few}
+use Rattle.demands.proofs.Opening.{opens, release-carries, no-more-won}
 use Rattle.demands.proofs.Rounds.{AllPlayed, all-played}
 use Rattle.demands.proofs.Told.{read-all}
 use Rattle.demands.proofs.Tokens.{Orderly, then-dones}
@@ -34,8 +36,12 @@ pub record Ran (site : Site) (k : ℕ) : Type 0 where
   pub leads : Leads site k (start site) log end
   pub ends : innerStep site k end ≡ over
   pub told : notesOf end ≡ last
+  -- the last DONE has come to T, unless no path was found
+  pub at-T : (last .found ≡ 0) ⊎ ((v : ℕ) × (end ≡ carrying v (inHalf (site .T)) last))
   pub flow : Flow (networkOf site) (last .found) (last .marks)
   pub outcome : ((last .found ≡ k) × (last .round ≡ k)) ⊎ ((last .found < k) × (last .round ≡ suc (last .found)) × Shut (networkOf site) (last .marks) (last .entered))
+  -- whenever a round has been won on the way, the marks are a flow of as many units as paths are found
+  pub each-won : (opening : List Entry) (after : Notes) → Leads site k (start site) opening (won after) → Flow (networkOf site) (after .found) (after .marks)
   pub paths : pathsOf site log ≡ pathsFrom site (last .marks)
   pub orderly : Orderly site 1 log
   pub bound : length log ≤ (2 * last .round + 1) * A site
@@ -72,15 +78,15 @@ module _ {site : Site} (valid : Valid site) (k : ℕ) (wanted : 0 < k)
   -- where there is no DONE nothing was found, and the rounds tell the notes
   tells : (r : AllPlayed site k (start site) first) (c : AllCarried site k (r .last) (r .end) (starts site (r .last .marks))) → notesOf (c .end) ≡ r .last
   unfolding first
-  tells r c = go (c .told)
+  tells r c = go (c .at-T)
     where
       early : ((r .end ≡ start site) × (r .last ≡ first)) ⊎ (notesOf (r .end) ≡ r .last) → notesOf (r .end) ≡ r .last
       early (inl w) = ap notesOf (w .0) ∙ sym (w .1)
       early (inr w) = w
 
-      go : ((starts site (r .last .marks) ≡ []) × (c .end ≡ r .end)) ⊎ (notesOf (c .end) ≡ r .last) → notesOf (c .end) ≡ r .last
+      go : ((starts site (r .last .marks) ≡ []) × (c .end ≡ r .end)) ⊎ ((v : ℕ) × (c .end ≡ carrying v (inHalf (site .T)) (r .last))) → notesOf (c .end) ≡ r .last
       go (inl w) = ap notesOf (w .1) ∙ early (r .told (sym (starts-number valid (r .flow)) ∙ ap length (w .0)))
-      go (inr w) = w
+      go (inr w) = ap notesOf (w .1)
 
   -- both together
   finish : (r : AllPlayed site k (start site) first) → AllCarried site k (r .last) (r .end) (starts site (r .last .marks)) → Ran site k
@@ -93,8 +99,10 @@ module _ {site : Site} (valid : Valid site) (k : ℕ) (wanted : 0 < k)
         leads = leads-on site k (start site) (r .end) (c .end) (r .log) (inRound (r .last .round) dones) (r .leads) (c .leads);
         ends = c .ends;
         told = tells r c;
+        at-T = arrived (c .at-T);
         flow = r .flow;
         outcome = r .outcome;
+        each-won = λ opening after leads. wins opening after leads (decLt 0 (length opening)) (decLt (length (r .log)) (length opening));
         paths = ap (λ (w : Walked). w .paths) (r .silent (inRound (r .last .round) dones) ∙ read);
         orderly = then-dones site 1 (r .last .round) (r .log) dones later (r .orderly) (all-done site (r .last .marks) (starts site (r .last .marks)));
         bound = omega (
@@ -110,6 +118,19 @@ module _ {site : Site} (valid : Valid site) (k : ℕ) (wanted : 0 < k)
     where
       dones : List Message
       dones = donesOf site (r .last .marks) (starts site (r .last .marks))
+
+      arrived : ((starts site (r .last .marks) ≡ []) × (c .end ≡ r .end)) ⊎ ((v : ℕ) × (c .end ≡ carrying v (inHalf (site .T)) (r .last))) → (r .last .found ≡ 0) ⊎ ((v : ℕ) × (c .end ≡ carrying v (inHalf (site .T)) (r .last)))
+      arrived (inl w) = inl (sym (starts-number valid (r .flow)) ∙ ap length (w .0))
+      arrived (inr w) = inr w
+
+      wins : (opening : List Entry) (after : Notes) → Leads site k (start site) opening (won after) → Dec (0 < length opening) → Dec (length (r .log) < length opening) → Flow (networkOf site) (after .found) (after .marks)
+      wins [] after leads (no p) q = absurd (let z : _≡_ {A = ℕ} 0 1 = cc in omega arith)
+      wins (e ∷ opening) after leads (no p) q = absurd (omega arith)
+      wins opening after leads (yes p) (no q) = r .each-won opening after leads p (omega arith)
+      wins opening after leads (yes p) (yes q) =
+          let parts = opens site k (start site) (r .log) opening (r .end) (won after) (r .leads) leads (omega arith) in
+          let sizes = ap length (parts .1) ∙ length-append (r .log) (parts .0) in
+          absurd (no-more-won site k (r .end) (parts .0) (won after) (rw (r .gives-up) (release-carries site 0 (r .last))) (omega arith) (parts .2))
 
       read : walked site (inRound (r .last .round) dones) ≡ record { onward = []; paths = pathsFrom site (r .last .marks) }
       read = read-all site (r .last .marks) (r .last .round) (not-the-source (split-of site valid) (r .flow)) (onward-marked valid (r .flow)) (starts site (r .last .marks)) (starts-marked site (r .last .marks))
