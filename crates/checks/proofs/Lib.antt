@@ -1,0 +1,5 @@
+pub mod Rows
+pub mod Cells
+pub mod Scan
+pub mod Sizes
+pub mod Verdicts

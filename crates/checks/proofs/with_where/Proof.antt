@@ -1,0 +1,17 @@
+-- `checks::with_where` meets its contract. Assumes nothing.
+use borrow.Author.Tests.{eq-eqb, ne-eqb}
+use mathlib.Core.Path.{_∙_}
+use Rattle.checks.proofs.with_where.Statement.{statement}
+use Rattle.checks.proofs.with_where.Tie as tie
+
+returns : tie.Need-returns
+returns c = λ j. simp (ne-eqb _ _ (c .if1 .taken))
+
+with-requires : tie.Need-with-requires
+with-requires c κs = c .before .pre
+
+returns-2 : tie.Need-returns-2
+returns-2 c = λ j. c .with .ensures j ∙ simp (eq-eqb _ _ (c .before .if1 .left))
+
+pub with-where-spec : {M : Type 1} → statement M
+with-where-spec = tie.close (tie.spec returns with-requires returns-2)

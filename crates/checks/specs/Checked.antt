@@ -1,0 +1,47 @@
+-- What the contracts of this crate say of the rows of links, and of what the checks leave.
+use mathlib.Core.Path.{_≡_}
+use mathlib.Core.Bool.{Bool, _&&_, _||_}
+use mathlib.Core.List.{List}
+use Prim.Native.Nat.{ℕ, _+_, _*_, _≤_, _<_}
+use lib.Dec.{eqb}
+use lib.ListN.{getD}
+use Rattle.basics.specs.Counting.{count}
+use Rattle.radios.specs.Member.{member}
+use Rattle.site.specs.Limits.{mostRadios, mostLinks}
+use Rattle.site.specs.Map.{linked}
+use Rattle.site.specs.Refusals.{Call, finding, verdict}
+use Rattle.site.specs.declared.Finding.{Finding}
+use Rattle.site.specs.declared.Finding.the-variants.{Sound}
+use Rattle.site.specs.declared.Verdict.{Verdict}
+use Rattle.site.specs.declared.Verdict.the-variants.{Accepted}
+
+-- row u is the set of the radios that u is linked to
+abbrev pub Filled : List ℕ → ℕ → List ℕ → Type 0
+Filled table n rows = (u v : ℕ) → member v (getD rows u 0) ≡ linked table n u v
+
+-- how many radios are in row u
+abbrev pub size : List ℕ → ℕ → ℕ
+size rows u = count (λ v. member v (getD rows u 0)) mostRadios
+
+-- u, v is the pair i, j, in this order or the other
+abbrev pub samePair : ℕ → ℕ → ℕ → ℕ → Bool
+samePair i j u v = (eqb u i && eqb v j) || (eqb u j && eqb v i)
+
+-- what the check of a table finds, and the rows that it leaves where it finds no fault
+pub record Checked (table : List ℕ) (n : ℕ) (rows : List ℕ) (found : Finding) : Type 0 where
+  pub told : found ≡ finding table n
+  pub filled : found ≡ Sound → Filled table n rows
+
+-- what the count of the steps leans on: two ends below n, and a total that holds both their rows and fits
+pub record Countable (rows : List ℕ) (total n s t : ℕ) : Type 0 where
+  pub two : 2 ≤ n
+  pub most : n ≤ mostRadios
+  pub source : s < n
+  pub sink : t < n
+  pub held : size rows s + size rows t ≤ total
+  pub fits : total ≤ 2 * mostLinks
+
+-- what a call is told, and the rows that it finds where it is accepted
+pub record Judged (call : Call) (rows : List ℕ) (answer : Verdict) : Type 0 where
+  pub told : answer ≡ verdict call
+  pub filled : answer ≡ Accepted → Filled (call .site .table) (call .site .n) rows

@@ -1,0 +1,180 @@
+// The checks before a run: the table with its links as sets of radios, the number of steps, and refusals 1 to 8.
+ghost use mathlib.Core.Path.{_≡_};
+ghost use mathlib.Core.Bool.{_&&_, _||_};
+ghost use Prim.Native.Nat.{ℕ, _+_, _*_, _≤_, _<_};
+ghost use lib.Dec.{eqb};
+ghost use lib.ListN.{length, getD};
+ghost use Rattle.basics.specs.Counting.{oneIf, sum};
+ghost use Rattle.radios.specs.Member.{member};
+ghost use Rattle.site.specs.Limits.{mostRadios};
+ghost use Rattle.site.specs.Refusals.{bad, callOf};
+ghost use Rattle.checks.specs.Checked.{size, samePair, Checked, Countable, Judged};
+use site::Finding;
+use site::Verdict;
+
+// A kit has at most so many radios: a set of them is one u64.
+const MOST_RADIOS: usize = 64;
+
+// So many links keep the log of any run below 40,000 bytes.
+const MOST_LINKS: usize = 256;
+
+// No sheet promises more paths than this.
+const MOST_PATHS: usize = 8;
+
+// The log takes so many bytes a message.
+const MESSAGE_BYTES: usize = 4;
+
+// The number of the cell of row i and column j. The product of two unknowns stands here alone.
+fn place(n: usize, i: usize, j: usize) -> usize
+    requires { ⌜ n ≤ mostRadios ⌝ }
+    requires { ⌜ i < n ⌝ }
+    requires { ⌜ j < n ⌝ }
+    ensures { λ r. ⌜ r ≡ i * n + j ⌝ }
+    ensures { λ r. ⌜ r < n * n ⌝ }
+{
+    i * n + j
+}
+
+// Is the cell of row i and column j bad: not 0 or 1, or on the diagonal and not 0, or unlike its mirror cell?
+fn is_bad(i: usize, j: usize, cell: u8, mirror: u8) -> bool
+    ensures { λ r. ⌜ r ≡ bad i j cell mirror ⌝ }
+{
+    if cell > 1 {
+        return true;
+    }
+    if i == j && cell != 0 {
+        return true;
+    }
+    cell != mirror
+}
+
+// Every row emptied, whatever it held.
+fn clear(rows: &mut [u64; 64])
+    ensures { λ r. ⌜ ((u : ℕ) → getD (now (rows .exit)) u 0 ≡ 0) ⌝ }
+{
+    let s = &mut rows[..];
+    for u in 0..MOST_RADIOS {
+        s[u] = 0;
+    }
+}
+
+// The set, with radio v besides where the cell is 1. A choice of two values and no branch around a store: no processor
+// guesses which cells are 1.
+fn with_where(row: u64, v: usize, cell: u8) -> u64
+    requires { ⌜ v < mostRadios ⌝ }
+    ensures { λ r. ⌜ ((j : ℕ) → member j r ≡ ((eqb cell 1 && eqb j v) || member j row)) ⌝ }
+{
+    if cell != 1 {
+        return row;
+    }
+    radios::with(row, v)
+}
+
+// Radio v joins row u where the cell is 1.
+fn join(rows: &mut [u64; 64], u: usize, v: usize, cell: u8)
+    requires { ⌜ (u < mostRadios) × (v < mostRadios) ⌝ }
+    ensures { λ r. ⌜ ((a b : ℕ) → member b (getD (now (rows .exit)) a 0) ≡ ((eqb cell 1 && (eqb a u && eqb b v)) || member b (getD (now (rows .entry)) a 0))) ⌝ }
+{
+    let s = &mut rows[..];
+    s[u] = with_where(s[u], v, cell);
+}
+
+// A cell that is 1 makes i and j neighbours: each joins the other's row.
+fn note(rows: &mut [u64; 64], i: usize, j: usize, cell: u8)
+    requires { ⌜ (i < mostRadios) × (j < mostRadios) ⌝ }
+    ensures { λ r. ⌜ ((u v : ℕ) → member v (getD (now (rows .exit)) u 0) ≡ ((eqb cell 1 && samePair i j u v) || member v (getD (now (rows .entry)) u 0))) ⌝ }
+{
+    join(rows, i, j, cell);
+    join(rows, j, i, cell);
+}
+
+// The first bad cell in row order, where there is one; where there is none, the rows are the table's links.
+// It is never below the diagonal, where its mirror cell comes first, so a row is scanned from the diagonal on.
+pub fn check_table(table: &[u8], n: usize, rows: &mut [u64; 64]) -> Finding
+    requires { ⌜ (n ≤ mostRadios) × (length (now table) ≡ n * n) ⌝ }
+    ensures { λ r. ⌜ Checked (now (table .entry)) n (now (rows .exit)) r ⌝ }
+{
+    clear(rows);
+    let mut found = Finding::Sound;
+    'rows: for i in 0..n {
+        for j in i..n {
+            let at = place(n, i, j);
+            let mirror = place(n, j, i);
+            if is_bad(i, j, table[at], table[mirror]) {
+                found = Finding::Bad(at);
+                break 'rows;
+            }
+            note(rows, i, j, table[at]);
+        }
+    }
+    found
+}
+
+// The sizes of the first n rows together: each link is counted at both its radios.
+pub fn total_of_rows(rows: &[u64; 64], n: usize) -> usize
+    requires { ⌜ n ≤ mostRadios ⌝ }
+    ensures { λ r. ⌜ r ≡ sum (size (now (rows .entry))) n ⌝ }
+{
+    let mut total = 0;
+    for u in 0..n {
+        total += radios::count(rows[u]);
+    }
+    total
+}
+
+// A, the number of steps, from the rows and their total. Left out are the steps into S and those out of T; where S and T
+// are linked, the one from T to S is among both, so it is added back.
+pub fn steps(rows: &[u64; 64], total: usize, n: usize, s: usize, t: usize) -> usize
+    requires { ⌜ Countable (now rows) total n s t ⌝ }
+    ensures { λ r. ⌜ r + size (now (rows .entry)) s + size (now (rows .entry)) t + 2 ≡ total + oneIf (member t (getD (now (rows .entry)) s 0)) + n ⌝ }
+{
+    let others = total - radios::count(rows[s]) - radios::count(rows[t]) + (n - 2);
+    if radios::has(rows[s], t) {
+        return others + 1;
+    }
+    others
+}
+
+// What a call is told before any token is sent: refusals 1 to 8 in this order. log, paths and cut are the lengths of
+// the lent buffers. An accepted call finds its links in the rows; after a refusal they hold what the checks left there.
+pub fn judge(
+    n: usize,
+    table: &[u8],
+    s: usize,
+    t: usize,
+    k: usize,
+    log: usize,
+    paths: usize,
+    cut: usize,
+    rows: &mut [u64; 64],
+) -> Verdict
+    ensures { λ r. ⌜ Judged (callOf n (now (table .entry)) s t k log paths cut) (now (rows .exit)) r ⌝ }
+{
+    if n < 2 || n > MOST_RADIOS {
+        return Verdict::Radios;
+    }
+    if table.len() != n * n {
+        return Verdict::TableLength;
+    }
+    if let Finding::Bad(cell) = check_table(table, n, rows) {
+        return Verdict::Cell(cell);
+    }
+    let total = total_of_rows(rows, n);
+    if total / 2 > MOST_LINKS {
+        return Verdict::Links;
+    }
+    if s >= n || t >= n || s == t {
+        return Verdict::Ends;
+    }
+    if k == 0 || k > MOST_PATHS {
+        return Verdict::Wanted;
+    }
+    let most_messages = (2 * k + 1) * steps(rows, total, n, s, t);
+    if log < MESSAGE_BYTES * most_messages {
+        return Verdict::Log;
+    }
+    if paths < n - 2 + 3 * k || cut < k {
+        return Verdict::Lists;
+    }
+    Verdict::Accepted
+}
