@@ -1,0 +1,70 @@
+-- What the machine's numbers, sets and bytes stand for: the state of the token rules.
+use mathlib.Core.Path.{_≡_}
+use mathlib.Core.Bool.{Bool, true, false, not, _&&_, _||_}
+use mathlib.Core.List.{List}
+use Prim.Native.Nat.{ℕ, zero, suc, _+_}
+use lib.Dec.{eqb}
+use lib.ListN.{getD}
+use Rattle.radios.specs.Member.{member}
+use Rattle.site.specs.Map.{Site, linked, radioOf, isOut}
+use Rattle.tokens.specs.Rules.{Marks, Entered, Notes, Waiting, nobody, waits, State, searching, declining, granting, won, carrying, Next, sends, over}
+use Rattle.tokens.specs.declared.Answer.{Answer}
+use Rattle.tokens.specs.declared.Answer.the-variants.{Sent, End}
+use Rattle.machine.specs.declared.Task.{Task}
+use Rattle.machine.specs.declared.Stage.{Stage}
+use Rattle.machine.specs.declared.Stage.the-variants.{Searching, Declining, Granting, Won, Carrying}
+use Rattle.machine.specs.declared.Machine.{Machine}
+use Rattle.machine.specs.declared.Stepped.{Stepped}
+
+-- ---- the map
+
+-- the rows of links are those of the site, and the numbers are its own
+pub record Shows (site : Site) (task : Task) (links : List ℕ) : Type 0 where
+  pub radios : site .n ≡ task .n
+  pub source : site .S ≡ task .s
+  pub sink : site .T ≡ task .t
+  pub rows : (u v : ℕ) → member v (getD links u 0) ≡ linked (site .table) (site .n) u v
+
+-- ---- marks: row u holds radio v where the step from u to v is marked, and radio u itself where the step inside u is
+
+-- a step leads from an out half to another radio's in half, or from an in half to its own out half
+abbrev pub likeAStep : ℕ → ℕ → Bool
+likeAStep a b = (isOut a && not (isOut b) && not (eqb (radioOf a) (radioOf b))) || (not (isOut a) && eqb b (a + 1))
+
+abbrev pub marksOf : List ℕ → Marks
+marksOf rows a b = likeAStep a b && member (radioOf b) (getD rows (radioOf a) 0)
+
+-- the same marks by the radio that they lead to
+abbrev pub Mirrors : List ℕ → List ℕ → Type 0
+Mirrors rows into = (u v : ℕ) → member u (getD into v 0) ≡ member v (getD rows u 0)
+
+-- ---- a byte for each half: 1 if it is entered
+
+abbrev pub enteredOf : List ℕ → Entered
+enteredOf bytes h = eqb (getD bytes h 0) 1
+
+-- ---- the halves that wait, the last one at the highest place
+
+abbrev pub waitingOf : List ℕ → List ℕ → ℕ → Waiting
+waitingOf halves places zero = nobody
+waitingOf halves places (suc depth) = waits (getD halves depth 0) (getD places depth 0) (waitingOf halves places depth)
+
+-- ---- all together
+
+abbrev pub notesIn : Machine → List ℕ → List ℕ → Notes
+notesIn machine marks entered = record { round = machine .round; found = machine .found; marks = marksOf marks; entered = enteredOf entered }
+
+abbrev pub stateIn : Stage → Notes → Waiting → State
+stateIn Searching notes waiting = searching notes waiting
+stateIn (Declining h) notes waiting = declining h notes waiting
+stateIn (Granting h) notes waiting = granting h notes waiting
+stateIn Won notes waiting = won notes
+stateIn (Carrying v h) notes waiting = carrying v h notes
+
+abbrev pub stateOf : Machine → List ℕ → List ℕ → List ℕ → List ℕ → State
+stateOf machine marks entered halves places = stateIn (machine .stage) (notesIn machine marks entered) (waitingOf halves places (machine .depth))
+
+-- the definition's word for an answer: a message and the state after it, or the end
+abbrev pub nextOf : Answer → State → Next
+nextOf (Sent message) state = sends message state
+nextOf End state = over
