@@ -3,10 +3,10 @@ use mathlib.Core.Path.{_≡_, refl, sym, ap, _∙_}
 use mathlib.Core.Bool.{Bool, true, false, _||_, cond, false≢true}
 use mathlib.Core.List.{List, [], _∷_, _++_, map}
 use mathlib.Core.Logic.{_⊎_, inl, inr}
-use Prim.Native.Nat.{ℕ, suc, _+_, _≤_, _<_, zero}
+use Prim.Native.Nat.{ℕ, suc, _+_, _≤_, _<_}
 use native.Mathlib.Omega.{arith}
 use lib.Dec.{eqb}
-use lib.ListN.{length, take}
+use lib.ListN.{length}
 use borrow.Author.Tests.{eqb-true, eq-eqb, ne-eqb}
 use Rattle.basics.specs.Counting.{oneIf, sum, count}
 use Rattle.basics.specs.Lists.{among, Different, All, AnyTwo}
@@ -79,14 +79,6 @@ erase-keeps x y (z ∷ list) ne h = go (eqb x z) refl (among-cases y z list h) (
     go true e (inr f) ih = f
     go false e (inl f) ih = rw f (among-here z (erase x list))
     go false e (inr f) ih = among-there y z (erase x list) (ih f)
-
--- different numbers that are all among others are no more than those
-pub pigeonhole : (list other : List ℕ) → Different list → list ⊆ other → length list ≤ length other
-pigeonhole [] other d s = omega arith
-pigeonhole (x ∷ list) other d s = omega (arith, pigeonhole list (erase x other) (d .1) kept, erase-length x other (s x (among-here x list)))
-  where
-    kept : list ⊆ erase x other
-    kept y h = erase-keeps x y other (λ (e : y ≡ x). clash (rw e at h) (d .0)) (s y (among-there y x list h))
 
 -- ---- not in a list
 
@@ -211,18 +203,6 @@ all-among P x (y ∷ list) a h = go (among-cases x y list h) (all-among P x list
     go : (x ≡ y) ⊎ (among x list ≡ true) → (among x list ≡ true → P x) → P x
     go (inl e) ih = rw e (a .0)
     go (inr e) ih = ih e
-
--- the first k of a list have what each of it has
-pub all-take {ℓ} : {A : Type ℓ} (P : A → Type 0) (k : ℕ) (list : List A) → All P list → All P (take k list)
-all-take P zero list a = tt
-all-take P (suc k) [] a = tt
-all-take P (suc k) (x ∷ list) a = (a .0, all-take P k list (a .1))
-
--- and any two of the first k stand as any two of it do
-pub any-two-take {ℓ} : {A : Type ℓ} (R : A → A → Type 0) (k : ℕ) (list : List A) → AnyTwo R list → AnyTwo R (take k list)
-any-two-take R zero list a = tt
-any-two-take R (suc k) [] a = tt
-any-two-take R (suc k) (x ∷ list) a = (all-take (R x) k list (a .0), any-two-take R k list (a .1))
 
 -- ---- one for each of a list
 

@@ -1,24 +1,26 @@
 -- The scan of the table: what is known after each cell, and what it comes to. Assumes nothing.
 use mathlib.Core.Path.{_≡_, refl, sym, ap, ap₂, _∙_}
-use mathlib.Core.Bool.{Bool, true, false, cond, _&&_, _||_, true≢false, and-false, or-true}
+use mathlib.Core.Bool.{Bool, true, false, _&&_, _||_, true≢false, and-false, or-true}
 use mathlib.Core.List.{List}
 use Prim.Native.Nat.{ℕ, zero, suc, _+_, _*_, _/_, _%_, _≤_, _<_, min, max, zero-le}
 use native.Mathlib.Decide.{ℕ-discrete, decLt}
 use native.Mathlib.Nat.{mod-lt, div-add-mod', div-lt-iff-lt-mul}
 use native.Mathlib.Omega.{arith}
-use lib.Dec.{eqb, ltb}
+use lib.Dec.{eqb}
 use lib.ListN.{getD}
-use borrow.Author.Tests.{eq-eqb, ne-eqb, lt-ltb, le-ltb, ltb-false}
+use borrow.Author.Tests.{eq-eqb, ne-eqb, lt-ltb, le-ltb}
 use Rattle.basics.specs.Counting.{First, firstFrom}
 use Rattle.basics.proofs.Counting.{first-from}
 use Rattle.radios.specs.Member.{member}
 use Rattle.radios.proofs.Laws.{member-empty}
 use Rattle.site.specs.Map.{linked}
 use Rattle.site.specs.Refusals.{bad, badAt, badCell, firstBad, finding}
+use Rattle.site.proofs.Exactly.{sound-table}
 use Rattle.site.proofs.Formula.{Even}
+use Rattle.site.proofs.Valid.{even-links}
 use Rattle.site.specs.declared.Finding.the-variants.{Sound, Bad}
 use Rattle.checks.specs.Checked.{Filled, samePair}
-use Rattle.checks.proofs.Cells.{good-mirror, linked-good, linked-mirror, linked-outside, at-place, in-table, earlier}
+use Rattle.checks.proofs.Cells.{good-mirror, linked-good, linked-mirror, linked-outside, at-place, earlier}
 
 -- where a pair of radios stands in the scan, which meets it at its lower radio's row
 abbrev pub turn : ℕ → ℕ → ℕ
@@ -207,28 +209,6 @@ all-filled table n rows small s u v = pick (decLt (turn u v) (64 * n + n))
 
 -- ---- what a sound table says
 
--- every cell of a sound table is good
-sound-cells : (table : List ℕ) (n : ℕ) → finding table n ≡ Sound → (i j : ℕ) → i < n → j < n → badAt table n i j ≡ false
-unfolding finding firstBad
-sound-cells table n e i j hi hj = sym (at-place table n i j hj) ∙ f .before (i * n + j) zero-le (go (ltb r (n * n)) refl e)
-  where
-    r : ℕ
-    r = firstFrom (badCell table n) 0 (n * n)
-
-    f : First (badCell table n) 0 (n * n) r
-    f = first-from (badCell table n) 0 (n * n) zero-le
-
-    go : (b : Bool) → ltb r (n * n) ≡ b → cond b (Bad r) Sound ≡ Sound → i * n + j < r
-    go true p q = absurd (let z : _≡_ {A = ℕ} 0 1 = cc in omega arith)
-    go false p q = omega (arith, ltb-false r (n * n) p, in-table n i j hi hj)
-
 -- so its links go both ways
 pub sound-even : (table : List ℕ) (n : ℕ) → finding table n ≡ Sound → Even table n
-sound-even table n e u v = pick (decLt u n) (decLt v n)
-  where
-    pick : Dec (u < n) → Dec (v < n) → linked table n u v ≡ linked table n v u
-    pick (yes p) (yes q) =
-        let fine : badAt table n u v ≡ false = sound-cells table n e u v p q in
-        linked-good table n u v p q fine ∙ sym (linked-mirror table n u v p q fine)
-    pick (yes p) (no q) = linked-outside table n u v (λ a b. q b) ∙ sym (linked-outside table n v u (λ a b. q a))
-    pick (no p) q = linked-outside table n u v (λ a b. p a) ∙ sym (linked-outside table n v u (λ a b. p b))
+sound-even table n e = even-links table n (sound-table table n e)

@@ -1,23 +1,23 @@
 -- Rule 7: S sends DONE along each trail of marked steps, each DONE comes to T, and the run is over. Assumes nothing.
-use mathlib.Core.Path.{_≡_, refl, sym, ap, _∙_}
+use mathlib.Core.Path.{_≡_, refl, ap, _∙_}
 use mathlib.Core.Bool.{Bool, true, false, cond}
-use mathlib.Core.List.{List, [], _∷_, _++_, map}
+use mathlib.Core.List.{List, [], _∷_, _++_}
 use mathlib.Core.Logic.{_⊎_, inl, inr}
 use Prim.Native.Nat.{ℕ, zero, suc, _+_, _-_, _*_, _≤_, _<_}
 use native.Mathlib.Nat.{sub-eq-zero-of-le}
 use native.Mathlib.Omega.{arith}
-use lib.Dec.{eqb, ltb}
+use lib.Dec.{eqb}
 use lib.ListN.{length}
-use borrow.Author.Tests.{eqb-true, eqb-false, eq-eqb, lt-ltb, le-ltb}
+use borrow.Author.Tests.{eqb-false, eq-eqb, lt-ltb, le-ltb}
 use Rattle.basics.specs.Counting.{firstOf}
 use Rattle.basics.specs.Lists.{All}
-use Rattle.site.specs.Map.{Site, inHalf, outHalf, radioOf, isOut}
+use Rattle.site.specs.Map.{Site, inHalf, outHalf, isOut}
 use Rattle.tokens.specs.declared.Kind.the-variants.{Done}
 use Rattle.tokens.specs.declared.Message.{Message}
 use Rattle.tokens.specs.Rules.{Marks, Notes, State, carrying, sends, over, message, nextMarked, passOn, release, carry, innerStep}
-use Rattle.tokens.specs.Run.{Entry, Walked, walked, notesOf}
+use Rattle.tokens.specs.Run.{Entry}
 use Rattle.menger.proofs.Trail.{follow}
-use Rattle.routes.proofs.Trails.{onward, trailOf, radiosOf, pathOf, passing, starts}
+use Rattle.routes.proofs.Trails.{onward, trailOf, passing, starts}
 use Rattle.rounds.proofs.Shows.{Leads, inRound}
 
 -- ---- two logs, one after the other

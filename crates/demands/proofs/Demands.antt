@@ -1,8 +1,8 @@
 -- Demands 2 and 3 hold for every accepted call, and demand 1 for every call: the index of what is proved. Assumes nothing.
 use mathlib.Core.Path.{_≡_, refl, sym, ap, _∙_}
-use mathlib.Core.Bool.{Bool, true, false, cond}
+use mathlib.Core.Bool.{true, cond}
 use mathlib.Core.List.{List, [], _∷_}
-use mathlib.Core.Logic.{_⊎_, inl, inr, _↔_}
+use mathlib.Core.Logic.{_⊎_, inl, inr}
 use Prim.Native.Nat.{ℕ, suc, min, _+_, _*_, _≤_, _<_}
 use native.Mathlib.Nat.{mul-le-mul-right}
 use native.Mathlib.Omega.{arith}
@@ -16,7 +16,7 @@ use Rattle.site.specs.Paths.{DisjointPaths, Largest}
 use Rattle.site.specs.Refusals.{Call, mostMessages, verdict, number}
 use Rattle.site.proofs.Valid.{Valid, Room, accepted-valid, accepted-room}
 use Rattle.tokens.specs.Rules.{Notes, won, carrying, start}
-use Rattle.tokens.specs.Run.{Entry, Run, notesOf, runFrom, pathsOf, cutOf}
+use Rattle.tokens.specs.Run.{Entry, Run, notesOf, pathsOf, cutOf}
 use Rattle.menger.proofs.Network.{Shut}
 use Rattle.menger.proofs.Flow.{Flow}
 use Rattle.menger.proofs.Units.{one-out}

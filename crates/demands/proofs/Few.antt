@@ -1,20 +1,18 @@
 -- The DONE messages of a run are no more than the steps of the map. Assumes nothing.
-use mathlib.Core.Path.{_≡_, refl, sym, ap, _∙_}
+use mathlib.Core.Path.{_≡_, refl, ap}
 use mathlib.Core.Bool.{Bool, true, false, cond}
-use mathlib.Core.List.{List, [], _∷_, _++_, map, tail}
+use mathlib.Core.List.{List, [], _∷_, map, tail}
 use mathlib.Core.Logic.{_⊎_, inl, inr}
 use Prim.Native.Nat.{ℕ, zero, suc, _+_, _*_, _≤_}
 use native.Mathlib.Omega.{arith}
 use lib.Dec.{eqb}
 use lib.ListN.{length, length-append}
-use Rattle.basics.specs.Counting.{sum, count}
 use Rattle.basics.specs.Lists.{among, Different}
 use Rattle.basics.proofs.Bools.{clash, not-true→false}
 use Rattle.basics.proofs.Lists.{among-nil, among-here, among-there, among-cases, total}
 use Rattle.site.specs.Map.{Site, inHalf, outHalf, A}
 use Rattle.site.proofs.Valid.{Valid}
 use Rattle.tokens.specs.declared.Kind.the-variants.{Done}
-use Rattle.tokens.specs.declared.Message.{Message}
 use Rattle.tokens.specs.Rules.{Marks, message}
 use Rattle.menger.proofs.Flow.{Flow}
 use Rattle.menger.proofs.Trail.{follow, trailFrom, Arrived}

@@ -12,7 +12,7 @@ use Rattle.site.specs.Map.{Site, inHalf, outHalf, isOut}
 use Rattle.tokens.specs.declared.Kind.{Kind}
 use Rattle.tokens.specs.declared.Kind.the-variants.{Pdt, PdtB, Pmt, Done}
 use Rattle.tokens.specs.declared.Message.{Message}
-use Rattle.tokens.specs.Rules.{Notes, Waiting, nobody, State, searching, declining, granting, won, carrying, Next, sends, over, message, begun, justS, candidate, nextPlace, gets, nextMarked, passOn, release, carry, tries, search, goOn, innerStep}
+use Rattle.tokens.specs.Rules.{Notes, Waiting, nobody, State, searching, declining, granting, won, carrying, Next, sends, over, message, begun, nextPlace, gets, nextMarked, passOn, release, carry, tries, search, goOn, innerStep}
 use Rattle.tokens.specs.Run.{Entry, notesOf}
 use Rattle.rounds.proofs.Shows.{Leads, inRound, Due, dueAfter, Answered}
 

@@ -1,20 +1,18 @@
 -- All rounds of a run, whatever search plays them: the marks stay a flow of as many units as paths are found. Assumes nothing.
-use mathlib.Core.Path.{_≡_, refl, sym, ap, _∙_}
-use mathlib.Core.Bool.{Bool, true, false}
+use mathlib.Core.Path.{_≡_, refl, ap, _∙_}
 use mathlib.Core.List.{List, [], _++_, append-assoc}
 use mathlib.Core.Logic.{_⊎_, inl, inr}
 use Prim.Native.Nat.{ℕ, zero, suc, _+_, _*_, _≤_, _<_}
 use native.Mathlib.Nat.{mul-suc}
 use native.Mathlib.Omega.{arith}
 use native.Mathlib.Decide.{decLt}
-use lib.Dec.{ltb}
 use lib.ListN.{length, length-append}
 use borrow.Author.Tests.{lt-ltb, le-ltb}
 use Rattle.site.specs.Map.{Site, A}
 use Rattle.site.proofs.Valid.{Valid}
 use Rattle.tokens.specs.Rules.{Notes, State, won, onlyS, begun, justS, release, search, goOn, innerStep}
 use Rattle.tokens.specs.Run.{Entry, notesOf, walked}
-use Rattle.menger.proofs.Network.{Split, Shut}
+use Rattle.menger.proofs.Network.{Shut}
 use Rattle.menger.proofs.Flow.{Flow, one-more}
 use Rattle.routes.proofs.Trails.{networkOf}
 use Rattle.routes.proofs.Split.{split-of}

@@ -1,9 +1,8 @@
 -- Rule 8: the paths read off the DONE messages are those of the trails, in the order of DONE. Assumes nothing.
-use mathlib.Core.Path.{_≡_, refl, sym, ap, _∙_}
+use mathlib.Core.Path.{_≡_, refl, ap, _∙_}
 use mathlib.Core.Bool.{Bool, true, false, cond}
 use mathlib.Core.List.{List, [], _∷_, _++_, map, append-nil}
-use Prim.Native.Nat.{ℕ, zero, suc, _+_, _*_}
-use native.Mathlib.Omega.{arith}
+use Prim.Native.Nat.{ℕ, zero, suc, _*_}
 use lib.Dec.{eqb}
 use borrow.Author.Tests.{eqb-false, eq-eqb, ne-eqb}
 use Rattle.basics.specs.Lists.{among}
@@ -14,7 +13,7 @@ use Rattle.tokens.specs.declared.Kind.{Kind}
 use Rattle.tokens.specs.declared.Kind.the-variants.{Pdt, PdtB, Pmt, Done}
 use Rattle.tokens.specs.declared.Message.{Message}
 use Rattle.tokens.specs.Rules.{Marks, message}
-use Rattle.tokens.specs.Run.{Entry, Walked, reaches, doneOver, heard, walked}
+use Rattle.tokens.specs.Run.{Entry, doneOver, heard, walked}
 use Rattle.menger.proofs.Trail.{follow}
 use Rattle.routes.proofs.Trails.{onward, trailOf, radiosOf, pathOf}
 use Rattle.rounds.proofs.Shows.{inRound, Due, dueAfter, Answered}

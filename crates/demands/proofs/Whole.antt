@@ -16,7 +16,7 @@ use Rattle.tokens.specs.Run.{Entry, Walked, notesOf, runOn, runFrom, walked, pa
 use Rattle.menger.proofs.Network.{Shut}
 use Rattle.menger.proofs.Flow.{Flow, no-flow}
 use Rattle.menger.proofs.Units.{marked-below, not-the-source}
-use Rattle.routes.proofs.FromFlow.{whole, paths-number}
+use Rattle.routes.proofs.FromFlow.{whole}
 use Rattle.routes.proofs.Split.{split-of}
 use Rattle.routes.proofs.Starts.{starts-marked, starts-number, onward-marked}
 use Rattle.routes.proofs.Trails.{networkOf, trailOf, starts, pathsFrom}

@@ -2,7 +2,7 @@
 use mathlib.Core.Path.{_≡_}
 use mathlib.Core.Bool.{true}
 use mathlib.Core.Logic.{_⊎_}
-use Prim.Native.Nat.{ℕ, zero, suc, _+_, _*_, _≤_, _<_}
+use Prim.Native.Nat.{ℕ, suc, _+_, _*_, _≤_, _<_}
 use Rattle.basics.specs.Counting.{count}
 use Rattle.site.specs.Map.{Site, outHalf, step}
 use Rattle.tokens.specs.Rules.{Notes, Waiting, nobody, waits, State, searching, declining, granting, won, carrying}

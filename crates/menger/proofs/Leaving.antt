@@ -1,15 +1,12 @@
 -- Where trails leave the halves of a lost round: every step out of them is marked, lies on one trail, and a trail leaves them once. Assumes nothing.
 use mathlib.Core.Path.{_≡_, refl, sym, ap, _∙_}
 use mathlib.Core.Bool.{Bool, true, false, _&&_}
-use mathlib.Core.List.{List, [], _∷_, _++_}
-use mathlib.Core.Logic.{_⊎_, inl, inr}
+use mathlib.Core.List.{List, [], _∷_}
 use Prim.Native.Nat.{ℕ, _<_}
 use native.Mathlib.Omega.{arith}
 use Rattle.basics.specs.Counting.{firstFrom}
-use Rattle.basics.specs.Lists.{among}
 use Rattle.basics.proofs.Bools.{clash, and-left, and-right, and-both}
 use Rattle.basics.proofs.Counting.{first-passes}
-use Rattle.basics.proofs.Lists.{among-nil, among-there, among-cases, among-one}
 use Rattle.menger.proofs.Network.{Network, Split, Marks, Shut}
 use Rattle.menger.proofs.Walks.{walk-forward, walk-backward}
 use Rattle.menger.proofs.Flow.{Flow}
@@ -24,81 +21,10 @@ leaving-is-marked {net} {m} shut y x s inside outside = go (m y x) refl
     go true e = refl
     go false e = clash (shut .closed y x inside (walk-forward net m y x s e)) outside
 
--- the one place where a trail leaves R: what is behind it is in R, what is beyond it is not
-pub record Leaves (R : ℕ → Bool) (trail : List ℕ) : Type 0 where
-  pub from : ℕ
-  pub to : ℕ
-  pub beyond : List ℕ
-  pub behind : List ℕ
-  pub parts : trail ≡ beyond ++ (to ∷ from ∷ behind)
-  pub from-in : R from ≡ true
-  pub to-out : R to ≡ false
-  pub before-in : (y : ℕ) → among y behind ≡ true → R y ≡ true
-  pub after-out : (y : ℕ) → among y beyond ≡ true → R y ≡ false
-  pub beside : Beside from to trail
-  pub only : (y x : ℕ) → Beside y x trail → R y ≡ true → R x ≡ false → (y ≡ from) × (x ≡ to)
-
 module _ {net : Network} {p : ℕ} {m : Marks} (flow : Flow net p m) {R : ℕ → Bool} (shut : Shut net m R) where
   -- no marked step leads into R
   pub none-enters : (y x : ℕ) → m y x ≡ true → R x ≡ true → R y ≡ true
   none-enters y x e inside = shut .closed x y inside (walk-backward net m x y (flow .on-steps y x e) e)
-
-  -- behind a half of a trail that is in R everything is in R
-  behind-in : (x : ℕ) (rest : List ℕ) → Back m (net .source) (x ∷ rest) → R x ≡ true → (y : ℕ) → among y (x ∷ rest) ≡ true → R y ≡ true
-  behind-in x [] k inside y h = rw (among-one y x h) inside
-  behind-in x (z ∷ rest) k inside y h = go (among-cases y x (z ∷ rest) h) (behind-in z rest (k .1) (none-enters z x (k .0) inside) y)
-    where
-      go : (y ≡ x) ⊎ (among y (z ∷ rest) ≡ true) → (among y (z ∷ rest) ≡ true → R y ≡ true) → R y ≡ true
-      go (inl e) ih = rw e inside
-      go (inr e) ih = ih e
-
-  leave : (a : ℕ) (rest : List ℕ) → Back m (net .source) (a ∷ rest) → R a ≡ false → Leaves R (a ∷ rest)
-  leave a [] k outside = clash (rw (sym k) at (shut .source-in)) outside
-  leave a (b ∷ rest) k outside = go (R b) refl (leave b rest (k .1))
-    where
-      go : (c : Bool) → R b ≡ c → (R b ≡ false → Leaves R (b ∷ rest)) → Leaves R (a ∷ b ∷ rest)
-      go true e ih = record {
-        from = b;
-        to = a;
-        beyond = [];
-        behind = rest;
-        parts = refl;
-        from-in = e;
-        to-out = outside;
-        before-in = λ y h. behind-in b rest (k .1) e y (among-there y b rest h);
-        after-out = λ y h. absurd (among-nil y h);
-        beside = inl (refl, refl);
-        only = only;
-      }
-        where
-          only : (y x : ℕ) → ((x ≡ a) × (y ≡ b)) ⊎ Beside y x (b ∷ rest) → R y ≡ true → R x ≡ false → (y ≡ b) × (x ≡ a)
-          only y x (inl u) i o = (u .1, u .0)
-          only y x (inr u) i o = clash (behind-in b rest (k .1) e x (beside-among y x (b ∷ rest) u .1)) o
-      go false e ih = record {
-        from = ih e .from;
-        to = ih e .to;
-        beyond = a ∷ ih e .beyond;
-        behind = ih e .behind;
-        parts = ap (λ (list : List ℕ). a ∷ list) (ih e .parts);
-        from-in = ih e .from-in;
-        to-out = ih e .to-out;
-        before-in = ih e .before-in;
-        after-out = λ y h. after y (among-cases y a (ih e .beyond) h);
-        beside = inr (ih e .beside);
-        only = only;
-      }
-        where
-          after : (y : ℕ) → (y ≡ a) ⊎ (among y (ih e .beyond) ≡ true) → R y ≡ false
-          after y (inl u) = rw u outside
-          after y (inr u) = ih e .after-out y u
-
-          only : (y x : ℕ) → ((x ≡ a) × (y ≡ b)) ⊎ Beside y x (b ∷ rest) → R y ≡ true → R x ≡ false → (y ≡ ih e .from) × (x ≡ ih e .to)
-          only y x (inl u) i o = clash (rw (u .1) at i) e
-          only y x (inr u) i o = ih e .only y x u i o
-
-  -- a trail leaves R at exactly one place
-  pub leaves-once : {z : ℕ} {trail : List ℕ} → Arrived net m z trail → Leaves R trail
-  leaves-once t = rw (t .shape) (leave (net .goal) (t .before ∷ t .rest) (t .back) (shut .goal-out))
 
   -- ---- a step out of R lies on a trail
 

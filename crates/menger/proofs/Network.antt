@@ -22,7 +22,6 @@ pub record Split (net : Network) : Type 0 where
   pub none-into-source : (a : ℕ) → net .step a (net .source) ≡ true → ⊥
   pub none-from-goal : (b : ℕ) → net .step (net .goal) b ≡ true → ⊥
   pub source-below : net .source < net .size
-  pub goal-below : net .goal < net .size
   pub ends-differ : net .source ≡ net .goal → ⊥
   pub narrow :
       (h : ℕ) → (h ≡ net .source → ⊥) → (h ≡ net .goal → ⊥)

@@ -219,25 +219,6 @@ module _ {net : Network} {m : Marks} {next : ℕ → ℕ} (lines : Unbranched ne
   unfolding first
   arrives z e = arrive (net .size) z (net .source) [] (e, refl) (omega arith)
 
-  follows-source : (x : ℕ) (trail : List ℕ) → Back m (net .source) trail → Beside (net .source) x trail → x ≡ first trail
-  unfolding first
-  follows-source x [] k b = absurd b
-  follows-source x (c ∷ []) k b = absurd b
-  follows-source x (c ∷ (d ∷ [])) k b = go b
-    where
-      go : ((x ≡ c) × (net .source ≡ d)) ⊎ ⊥ → x ≡ c
-      go (inl e) = e .0
-      go (inr e) = absurd e
-  follows-source x (c ∷ (d ∷ (f ∷ rest))) k b = go b (follows-source x (d ∷ f ∷ rest) (k .1))
-    where
-      go : ((x ≡ c) × (net .source ≡ d)) ⊎ Beside (net .source) x (d ∷ f ∷ rest) → (Beside (net .source) x (d ∷ f ∷ rest) → x ≡ first (d ∷ f ∷ rest)) → x ≡ first (d ∷ f ∷ rest)
-      go (inl e) ih = absurd (lines .source-first f (rw (sym (e .1)) at (k .1 .0)))
-      go (inr e) ih = ih e
-
-  -- on a trail only its start follows the source
-  pub only-start : {z : ℕ} {trail : List ℕ} → Arrived net m z trail → (x : ℕ) → Beside (net .source) x trail → x ≡ z
-  only-start {trail = trail} t x b = follows-source x trail (led t) b ∙ t .begins
-
   -- two trails that share a half but the ends are of one start
   pub trails-apart : {z z′ : ℕ} {trail trail′ : List ℕ} → Arrived net m z trail → Arrived net m z′ trail′ → (x : ℕ) → among x trail ≡ true → among x trail′ ≡ true → (x ≡ net .source → ⊥) → (x ≡ net .goal → ⊥) → z ≡ z′
   trails-apart {trail = trail} {trail′ = trail′} t t′ x h h′ not-source not-goal =

@@ -5,11 +5,10 @@ use mathlib.Core.List.{List, [], _∷_, _++_}
 use mathlib.Core.Logic.{_⊎_, inl, inr}
 use Prim.Native.Nat.{ℕ, _+_, _*_, _≤_, _<_}
 use native.Mathlib.Omega.{arith}
-use lib.ListN.{length, take, length-append}
-use lib.Seq.{length-take-le}
+use lib.ListN.{length, length-append}
 use Rattle.basics.specs.Lists.{among, Different, All, AnyTwo}
 use Rattle.basics.proofs.Bools.{clash, not-true→false}
-use Rattle.basics.proofs.Lists.{among-nil, among-here, among-there, among-cases, erase, erase-length, erase-keeps, erase-among, erase-different, among-append, different-append, all-among, all-take, any-two-take, different-below}
+use Rattle.basics.proofs.Lists.{among-nil, among-here, among-there, among-cases, erase, erase-length, erase-keeps, erase-among, erase-different, among-append, different-append, all-among, different-below}
 use Rattle.site.specs.Map.{Site}
 use Rattle.site.specs.Paths.{LeadsToT, Path, Disjoint, DisjointPaths, Largest, CutItem, Meets}
 use Rattle.site.proofs.Steps.{linked-says}
@@ -61,10 +60,6 @@ module _ (site : Site) (small : site .n ≤ 64) where
 -- there is one largest number
 pub largest-unique : {site : Site} {M M′ : ℕ} → Largest site M → Largest site M′ → M ≡ M′
 largest-unique most most′ = omega (arith, most .number, most′ .number, most .most (most′ .some) (most′ .good), most′ .most (most .some) (most .good))
-
--- where there are so many disjoint paths there are any fewer
-pub some-family : {site : Site} {ps : List (List ℕ)} → DisjointPaths site ps → (k : ℕ) → k ≤ length ps → (qs : List (List ℕ)) × (length qs ≡ k) × DisjointPaths site qs
-some-family {site} {ps} family k enough = (take k ps, length-take-le k ps enough, record { each = all-take (Path site) k ps (family .each); two = any-two-take (Disjoint site) k ps (family .two) })
 
 -- ---- the radios of a path
 

@@ -53,7 +53,6 @@ module _ (site : Site) where
     none-into-source = λ a e. into-source a (step-of site a _ e);
     none-from-goal = λ b e. from-goal b (step-of site _ b e);
     source-below = omega (arith, valid .S-below);
-    goal-below = omega (arith, valid .T-below);
     ends-differ = λ e. omega arith;
     narrow = λ h ns nt. narrow h (ℕ-discrete (h % 2) 0);
   }

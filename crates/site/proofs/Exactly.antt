@@ -1,6 +1,6 @@
 -- Demand 1 over the refusals: each number is given exactly when its own condition holds and none before it does. Assumes nothing.
 use mathlib.Core.Path.{_≡_, refl, sym, _∙_}
-use mathlib.Core.Bool.{Bool, true, false, not, _||_, cond, true≢false}
+use mathlib.Core.Bool.{Bool, true, false, not, _||_, cond, true≢false, false≢true}
 use mathlib.Core.List.{List, [], _∷_}
 use mathlib.Core.Logic.{_⊎_, inl, inr, _↔_}
 use Prim.Native.Nat.{ℕ, zero, suc, _+_, _*_, _/_, _%_, _<_}
@@ -145,6 +145,15 @@ module _ (table : List ℕ) (n : ℕ) where
       found : (place : ℕ) → place < n * n → Fault table n place → (b : Bool) → ltb (firstBad table n) (n * n) ≡ b → b ≡ true
       found place p fault true e = refl
       found place p fault false e = absurd (true≢false (sym (bad-cell table n place .1 fault) ∙ first-bad .before place (omega arith) (omega (arith, ltb-false (firstBad table n) (n * n) e))))
+
+-- a table in which the check finds nothing has no fault
+pub sound-table : (table : List ℕ) (n : ℕ) → finding table n ≡ Sound → (place : ℕ) → place < n * n → Fault table n place → ⊥
+unfolding finding
+sound-table table n sound place p fault = go (ltb (firstBad table n) (n * n)) (some-fault table n .1 (place, p, fault)) sound
+  where
+    go : (b : Bool) → b ≡ true → cond b (Bad (firstBad table n)) Sound ≡ Sound → ⊥
+    go true e told = let z : _≡_ {A = ℕ} 0 1 = cc in omega arith
+    go false e told = false≢true e
 
 -- ---- the refusals
 
