@@ -16,7 +16,7 @@ use Rattle.site.specs.Paths.{DisjointPaths, Largest}
 use Rattle.site.specs.Refusals.{Call, mostMessages, verdict, number}
 use Rattle.site.proofs.Valid.{Valid, Room, accepted-valid, accepted-room}
 use Rattle.tokens.specs.Rules.{Notes, won, carrying, start}
-use Rattle.tokens.specs.Run.{Entry, Run, notesOf, pathsOf, cutOf}
+use Rattle.tokens.specs.Run.{Entry, Run, notesOf, runFrom, pathsOf, cutOf}
 use Rattle.menger.proofs.Network.{Shut}
 use Rattle.menger.proofs.Flow.{Flow}
 use Rattle.menger.proofs.Units.{one-out}
@@ -98,6 +98,10 @@ module _ (call : Call) (accepted : outcome call .refusal ≡ 0) where
   run : runOf call ≡ record { log = r .log; last = r .end }
   unfolding runOf
   run = run-is (call .site) (call .k) (mostMessages (call .site) (call .k)) (start (call .site)) (r .log) (r .end) (r .leads) (r .ends) within-budget
+
+  -- any larger budget gives the same run: it ends by itself
+  pub any-budget : (budget : ℕ) → mostMessages (call .site) (call .k) ≤ budget → runFrom (call .site) (call .k) budget (start (call .site)) ≡ runOf call
+  any-budget budget enough = run-is (call .site) (call .k) budget (start (call .site)) (r .log) (r .end) (r .leads) (r .ends) (omega (arith, within-budget)) ∙ sym run
 
   -- ---- what the outcome says, in the run's words
 

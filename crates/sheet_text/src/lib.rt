@@ -1,0 +1,1 @@
+// One sheet written from the text of one capture.
