@@ -1,15 +1,11 @@
 -- What holds of every state that a run comes to, as far as the code leans on it.
 use mathlib.Core.Path.{_≡_}
 use mathlib.Core.Bool.{true}
-use mathlib.Core.Logic.{_⊎_}
 use Prim.Native.Nat.{ℕ, suc, _+_, _*_, _≤_, _<_}
 use Rattle.basics.specs.Counting.{count}
 use Rattle.site.specs.Map.{Site, outHalf, step}
+pub use Rattle.marks.specs.Rows.{Joined}
 use Rattle.tokens.specs.Rules.{Notes, Waiting, nobody, waits, State, searching, declining, granting, won, carrying}
-
--- a step joins two halves, whichever way it leads
-abbrev pub Joined : Site → ℕ → ℕ → Type 0
-Joined site a b = (step site a b ≡ true) ⊎ (step site b a ≡ true)
 
 -- half h was asked by the one that waits on top, and so on down to S's out half
 abbrev pub Asked : Site → ℕ → Waiting → Type 0

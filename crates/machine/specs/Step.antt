@@ -16,6 +16,7 @@ pub record Fits (task : Task) : Type 0 where
   pub few : task .n ≤ mostRadios
   pub source : task .s < task .n
   pub sink : task .t < task .n
+  pub differ : task .s ≡ task .t → ⊥
 
 -- the rows are those of some site, and the state is one that a run on it comes to
 pub record Ready (task : Task) (machine : Machine) (links marks into entered halves places : List ℕ) : Type 0 where

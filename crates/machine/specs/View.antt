@@ -1,15 +1,15 @@
 -- What the machine's numbers, sets and bytes stand for: the state of the token rules.
 use mathlib.Core.Path.{_≡_}
-use mathlib.Core.Bool.{Bool, not, _&&_, _||_}
 use mathlib.Core.List.{List}
-use Prim.Native.Nat.{ℕ, zero, suc, _+_}
+use Prim.Native.Nat.{ℕ, zero, suc}
 use lib.Dec.{eqb}
 use lib.ListN.{getD}
 use Rattle.radios.specs.Member.{member}
-use Rattle.site.specs.Map.{Site, linked, radioOf, isOut}
-use Rattle.tokens.specs.Rules.{Marks, Entered, Notes, Waiting, nobody, waits, State, searching, declining, granting, won, carrying, Next, sends, over}
+use Rattle.site.specs.Map.{Site, linked}
+use Rattle.tokens.specs.Rules.{Entered, Notes, Waiting, nobody, waits, State, searching, declining, granting, won, carrying, Next, sends, over}
 use Rattle.tokens.specs.declared.Answer.{Answer}
 use Rattle.tokens.specs.declared.Answer.the-variants.{Sent, End}
+pub use Rattle.marks.specs.Rows.{marksOf, Mirrors}
 use Rattle.machine.specs.declared.Task.{Task}
 use Rattle.machine.specs.declared.Stage.{Stage}
 use Rattle.machine.specs.declared.Stage.the-variants.{Searching, Declining, Granting, Won, Carrying}
@@ -23,19 +23,6 @@ pub record Shows (site : Site) (task : Task) (links : List ℕ) : Type 0 where
   pub source : site .S ≡ task .s
   pub sink : site .T ≡ task .t
   pub rows : (u v : ℕ) → member v (getD links u 0) ≡ linked (site .table) (site .n) u v
-
--- ---- marks: row u holds radio v where the step from u to v is marked, and radio u itself where the step inside u is
-
--- a step leads from an out half to another radio's in half, or from an in half to its own out half
-abbrev pub likeAStep : ℕ → ℕ → Bool
-likeAStep a b = (isOut a && not (isOut b) && not (eqb (radioOf a) (radioOf b))) || (not (isOut a) && eqb b (a + 1))
-
-abbrev pub marksOf : List ℕ → Marks
-marksOf rows a b = likeAStep a b && member (radioOf b) (getD rows (radioOf a) 0)
-
--- the same marks by the radio that they lead to
-abbrev pub Mirrors : List ℕ → List ℕ → Type 0
-Mirrors rows into = (u v : ℕ) → member u (getD into v 0) ≡ member v (getD rows u 0)
 
 -- ---- a byte for each half: 1 if it is entered
 

@@ -1,5 +1,19 @@
 // One inner step of the token rules, on sets of radios and bytes that the caller lends.
+ghost use mathlib.Core.Path.{_≡_};
+ghost use mathlib.Core.Bool.{true, false, _||_};
+ghost use mathlib.Core.List.{List};
+ghost use Prim.Native.Nat.{ℕ, suc, _+_, _*_, _≤_, _<_};
+ghost use lib.Dec.{eqb};
+ghost use lib.ListN.{getD};
+ghost use Rattle.site.specs.Limits.{mostRadios};
+ghost use Rattle.site.specs.Map.{Site, inHalf};
+ghost use Rattle.tokens.specs.Rules.{searching, won, carrying, waits, gets, tries, passOn, release, decline};
+ghost use Rattle.machine.specs.View.{enteredOf, waitingOf, notesIn, stateOf, nextOf};
+ghost use Rattle.machine.specs.Parts.{Sends, Grants, Granted, Stands, Answers};
+ghost use Rattle.machine.specs.Step.{Ready, Told};
 use tokens::Answer;
+use tokens::Kind;
+use tokens::Message;
 
 // The numbers of a survey: radios, the two ends, and the paths wanted.
 pub struct Task {
@@ -30,4 +44,317 @@ pub struct Machine {
 pub struct Stepped {
     pub answer: Answer,
     pub machine: Machine,
+}
+
+// There are at most so many halves, two to a radio.
+const MOST_HALVES: usize = 128;
+
+// A byte's number.
+fn wide(byte: u8) -> usize
+    ensures { λ r. ⌜ r ≡ byte ⌝ }
+{
+    byte as usize
+}
+
+// The machine at another stage, with so many halves that wait.
+fn moved(machine: Machine, stage: Stage, depth: usize) -> Machine
+    ensures { λ r. ⌜ r ≡ record { stage = stage; depth = depth; round = machine .round; found = machine .found } ⌝ }
+{
+    Machine {
+        stage,
+        depth,
+        round: machine.round,
+        found: machine.found,
+    }
+}
+
+// A message is sent, and the machine stands there once it is delivered.
+fn sent(kind: Kind, from: usize, to: usize, machine: Machine) -> Stepped
+    ensures { λ r. ⌜ r ≡ record { answer = Answer.Sent (record { kind = kind; from = from; to = to }); machine = machine } ⌝ }
+{
+    Stepped {
+        answer: Answer::Sent(Message { kind, from, to }),
+        machine,
+    }
+}
+
+// ---- rule 7: DONE
+
+// Half h passes DONE over its marked step to radio w, where w is a radio. S sent it to radio v.
+fn pass_on(n: usize, machine: Machine, h: usize, v: usize, w: usize) -> Stepped
+    requires { ⌜ n ≤ mostRadios ⌝ }
+    ensures { λ r. ⌜ ((site : Site) (marks entered halves places : List ℕ) → site .n ≡ n → passOn site h v w (notesIn machine marks entered) ≡ nextOf (r .answer) (stateOf (r .machine) marks entered halves places)) ⌝ }
+{
+    if w < n {
+        return sent(
+            Kind::Done,
+            h,
+            2 * w,
+            moved(machine, Stage::Carrying(v, 2 * w), 0),
+        );
+    }
+    Stepped {
+        answer: Answer::End,
+        machine,
+    }
+}
+
+// S sends DONE to the first radio from v on that has a marked step from S; where there is none, all is done.
+fn releases(task: Task, machine: Machine, marks: &[u64; 64], v: usize) -> Stepped
+    requires { ⌜ (task .n ≤ mostRadios) × (task .s < task .n) × (v ≤ task .n) ⌝ }
+    ensures { λ r. ⌜ ((site : Site) (entered halves places : List ℕ) → site .n ≡ task .n → site .S ≡ task .s → release site v (notesIn machine (now (marks .entry)) entered) ≡ nextOf (r .answer) (stateOf (r .machine) (now (marks .entry)) entered halves places)) ⌝ }
+{
+    let w = marks::next_marked(task.n, marks, task.s, v);
+    pass_on(task.n, machine, 2 * task.s + 1, w, w)
+}
+
+// DONE is at half h: T's in half is the end of a path, an in half passes it on within its radio, an out half over its marked step.
+fn carries(task: Task, machine: Machine, marks: &[u64; 64], v: usize, h: usize) -> Stepped
+    requires { ⌜ (task .n ≤ mostRadios) × (task .s < task .n) × (task .t < task .n) × (v < task .n) × (h < 2 * task .n) ⌝ }
+    ensures { λ r. ⌜ ((links entered halves places : List ℕ) → Answers task links (carrying v h (notesIn machine (now (marks .entry)) entered)) (r .answer) (stateOf (r .machine) (now (marks .entry)) entered halves places)) ⌝ }
+{
+    if h == 2 * task.t {
+        return releases(task, machine, marks, v + 1);
+    }
+    if h % 2 == 1 {
+        let w = marks::next_marked(task.n, marks, h / 2, 0);
+        return pass_on(task.n, machine, h, v, w);
+    }
+    sent(
+        Kind::Done,
+        h,
+        h + 1,
+        moved(machine, Stage::Carrying(v, h + 1), 0),
+    )
+}
+
+// ---- the halves that are entered, and those that wait
+
+// Has half h been entered?
+fn is_entered(entered: &[u8; 128], h: usize) -> bool
+    requires { ⌜ h < 2 * mostRadios ⌝ }
+    ensures { λ r. ⌜ r ≡ enteredOf (now (entered .entry)) h ⌝ }
+{
+    entered[h] == 1
+}
+
+// Half h is entered.
+fn enter(entered: &mut [u8; 128], h: usize)
+    requires { ⌜ h < 2 * mostRadios ⌝ }
+    ensures { λ r. ⌜ enteredOf (now (entered .exit)) ≡ (λ x. eqb x h || enteredOf (now (entered .entry)) x) ⌝ }
+{
+    let s = &mut entered[..];
+    s[h] = 1;
+}
+
+// No half is entered but h.
+fn enter_only(entered: &mut [u8; 128], h: usize)
+    requires { ⌜ h < 2 * mostRadios ⌝ }
+    ensures { λ r. ⌜ enteredOf (now (entered .exit)) ≡ (λ x. eqb x h) ⌝ }
+{
+    let s = &mut entered[..];
+    for i in 0..MOST_HALVES {
+        s[i] = 0;
+    }
+    s[h] = 1;
+}
+
+// Half h waits above the first so many, and has tried no place yet.
+fn push(halves: &mut [u8; 128], places: &mut [u8; 128], depth: usize, h: usize)
+    requires { ⌜ (depth < 2 * mostRadios) × (h < 2 * mostRadios) ⌝ }
+    ensures { λ r. ⌜ waitingOf (now (halves .exit)) (now (places .exit)) (depth + 1) ≡ waits h 0 (waitingOf (now (halves .entry)) (now (places .entry)) depth) ⌝ }
+{
+    let s = &mut halves[..];
+    s[depth] = h as u8;
+    let p = &mut places[..];
+    p[depth] = 0;
+}
+
+// The half on top goes on at this place.
+fn go_on_at(halves: &[u8; 128], places: &mut [u8; 128], top: usize, place: usize)
+    requires { ⌜ (top < 2 * mostRadios) × (place ≤ mostRadios + 1) ⌝ }
+    ensures { λ r. ⌜ waitingOf (now (halves .entry)) (now (places .exit)) (top + 1) ≡ waits (getD (now (halves .entry)) top 0) place (waitingOf (now (halves .entry)) (now (places .entry)) top) ⌝ }
+{
+    let p = &mut places[..];
+    p[top] = place as u8;
+}
+
+// ---- rules 3 to 6, one function to a stage
+
+// Half `to` gets a PDT from the half on top: T's in half owes PMT, one that was entered before owes PDT_B, any other searches.
+fn receives(
+    task: Task,
+    machine: Machine,
+    to: usize,
+    entered: &mut [u8; 128],
+    halves: &mut [u8; 128],
+    places: &mut [u8; 128],
+) -> Machine
+    requires { ⌜ (task .t < mostRadios) × (to < 2 * mostRadios) × (enteredOf (now entered) to ≡ false → machine .depth < 2 * mostRadios) ⌝ }
+    ensures { λ r. ⌜ ((marks : List ℕ) → gets (eqb to (inHalf (task .t))) (enteredOf (now (entered .entry)) to) to (notesIn machine marks (now (entered .entry))) (waitingOf (now (halves .entry)) (now (places .entry)) (machine .depth)) ≡ stateOf r marks (now (entered .exit)) (now (halves .exit)) (now (places .exit))) ⌝ }
+{
+    if to == 2 * task.t {
+        enter(entered, to);
+        return moved(machine, Stage::Granting(to), machine.depth);
+    }
+    if is_entered(entered, to) {
+        return moved(machine, Stage::Declining(to), machine.depth);
+    }
+    enter(entered, to);
+    push(halves, places, machine.depth, to);
+    moved(machine, Stage::Searching, machine.depth + 1)
+}
+
+// The half on top, h, sends a PDT to what stands at this place of its order.
+fn sends_on(
+    task: Task,
+    machine: Machine,
+    h: usize,
+    place: usize,
+    entered: &mut [u8; 128],
+    halves: &mut [u8; 128],
+    places: &mut [u8; 128],
+) -> Stepped
+    requires { ⌜ Sends task machine h place (now entered) (now halves) ⌝ }
+    ensures { λ r. ⌜ ((site : Site) (marks : List ℕ) (top : ℕ) → site .n ≡ task .n → site .T ≡ task .t → machine .depth ≡ suc top → tries true site h place (notesIn machine marks (now (entered .entry))) (waitingOf (now (halves .entry)) (now (places .entry)) top) ≡ nextOf (r .answer) (stateOf (r .machine) marks (now (entered .exit)) (now (halves .exit)) (now (places .exit)))) ⌝ }
+{
+    let to = marks::half_at(task.n, h, place);
+    go_on_at(halves, places, machine.depth - 1, place + 1);
+    sent(
+        Kind::Pdt,
+        h,
+        to,
+        receives(task, machine, to, entered, halves, places),
+    )
+}
+
+// The half on top sends its next PDT; with nothing left to try it replies PDT_B, or is S, whose round has failed.
+fn searches(
+    task: Task,
+    machine: Machine,
+    links: &[u64; 64],
+    marks: &[u64; 64],
+    into: &[u64; 64],
+    entered: &mut [u8; 128],
+    halves: &mut [u8; 128],
+    places: &mut [u8; 128],
+) -> Stepped
+    requires { ⌜ Stands task (now links) (now marks) (now into) (searching (notesIn machine (now marks) (now entered)) (waitingOf (now halves) (now places) (machine .depth))) ⌝ }
+    ensures { λ r. ⌜ Answers task (now (links .entry)) (searching (notesIn machine (now (marks .entry)) (now (entered .entry))) (waitingOf (now (halves .entry)) (now (places .entry)) (machine .depth))) (r .answer) (stateOf (r .machine) (now (marks .entry)) (now (entered .exit)) (now (halves .exit)) (now (places .exit))) ⌝ }
+{
+    let top = machine.depth - 1;
+    let h = wide(halves[top]);
+    let place = marks::next_place(
+        task.n,
+        task.s,
+        task.t,
+        links,
+        marks,
+        into,
+        h,
+        wide(places[top]),
+    );
+    if place <= task.n {
+        return sends_on(task, machine, h, place, entered, halves, places);
+    }
+    if top == 0 {
+        return releases(task, machine, marks, 0);
+    }
+    let asker = wide(halves[top - 1]);
+    sent(Kind::PdtB, h, asker, moved(machine, Stage::Searching, top))
+}
+
+// Half y, which was entered before, replies PDT_B to the half on top.
+fn declines(machine: Machine, halves: &[u8; 128], y: usize) -> Stepped
+    requires { ⌜ (0 < machine .depth) × (machine .depth ≤ 2 * mostRadios) ⌝ }
+    ensures { λ r. ⌜ ((marks entered places : List ℕ) → decline y (notesIn machine marks entered) (waitingOf (now (halves .entry)) places (machine .depth)) ≡ nextOf (r .answer) (stateOf (r .machine) marks entered (now (halves .entry)) places)) ⌝ }
+{
+    let top = machine.depth - 1;
+    let asker = wide(halves[top]);
+    sent(
+        Kind::PdtB,
+        y,
+        asker,
+        moved(machine, Stage::Searching, machine.depth),
+    )
+}
+
+// Half y replies PMT to the half on top, which reverses their step's mark and owes PMT in its turn, or is S, whose round is won.
+fn grants(
+    machine: Machine,
+    marks: &mut [u64; 64],
+    into: &mut [u64; 64],
+    halves: &[u8; 128],
+    y: usize,
+) -> Stepped
+    requires { ⌜ Grants machine y (now halves) ⌝ }
+    ensures { λ r. ⌜ Granted machine y (now (marks .entry)) (now (into .entry)) (now (halves .entry)) r (now (marks .exit)) (now (into .exit)) ⌝ }
+{
+    let top = machine.depth - 1;
+    let h = wide(halves[top]);
+    marks::reverse(marks, into, h, y);
+    if top == 0 {
+        let won = Machine {
+            stage: Stage::Won,
+            depth: 0,
+            round: machine.round,
+            found: machine.found + 1,
+        };
+        return sent(Kind::Pmt, y, h, won);
+    }
+    sent(Kind::Pmt, y, h, moved(machine, Stage::Granting(h), top))
+}
+
+// A round is won: the next one begins while fewer than k paths are found, else S sends DONE.
+fn goes_on(
+    task: Task,
+    machine: Machine,
+    links: &[u64; 64],
+    marks: &[u64; 64],
+    into: &[u64; 64],
+    entered: &mut [u8; 128],
+    halves: &mut [u8; 128],
+    places: &mut [u8; 128],
+) -> Stepped
+    requires { ⌜ Stands task (now links) (now marks) (now into) (won (notesIn machine (now marks) (now entered))) ⌝ }
+    ensures { λ r. ⌜ Answers task (now (links .entry)) (won (notesIn machine (now (marks .entry)) (now (entered .entry)))) (r .answer) (stateOf (r .machine) (now (marks .entry)) (now (entered .exit)) (now (halves .exit)) (now (places .exit))) ⌝ }
+{
+    if machine.found >= task.k {
+        return releases(task, machine, marks, 0);
+    }
+    let source = 2 * task.s + 1;
+    enter_only(entered, source);
+    push(halves, places, 0, source);
+    let begun = Machine {
+        stage: Stage::Searching,
+        depth: 1,
+        round: machine.round + 1,
+        found: machine.found,
+    };
+    searches(task, begun, links, marks, into, entered, halves, places)
+}
+
+// One inner step: the message that the rules send next, or the end of the run, and where the machine stands after it.
+// What the lent rows and bytes hold then is the definition's state once the message is delivered.
+pub fn step(
+    task: Task,
+    machine: Machine,
+    links: &[u64; 64],
+    marks: &mut [u64; 64],
+    into: &mut [u64; 64],
+    entered: &mut [u8; 128],
+    halves: &mut [u8; 128],
+    places: &mut [u8; 128],
+) -> Stepped
+    requires { ⌜ Ready task machine (now links) (now marks) (now into) (now entered) (now halves) (now places) ⌝ }
+    ensures { λ r. ⌜ Told task (now (links .entry)) (stateOf machine (now (marks .entry)) (now (entered .entry)) (now (halves .entry)) (now (places .entry))) r (now (marks .exit)) (now (into .exit)) (now (entered .exit)) (now (halves .exit)) (now (places .exit)) ⌝ }
+{
+    let stage = machine.stage;
+    match stage {
+        Stage::Searching => searches(task, machine, links, marks, into, entered, halves, places),
+        Stage::Declining(y) => declines(machine, halves, y),
+        Stage::Granting(y) => grants(machine, marks, into, halves, y),
+        Stage::Won => goes_on(task, machine, links, marks, into, entered, halves, places),
+        Stage::Carrying(v, h) => carries(task, machine, marks, v, h),
+    }
 }

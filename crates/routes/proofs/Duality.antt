@@ -77,6 +77,17 @@ leads-below site x u (v ∷ rest) w h = go (among-cases x v rest h) (leads-below
     go (inl e) ih = omega (arith, linked-says site u v (w .0) .to-below)
     go (inr e) ih = ih e
 
+pub path-below : {site : Site} → Valid site → {p : List ℕ} → Path site p → (x : ℕ) → among x p ≡ true → x < site .n
+path-below {site} valid path x h = go (among-cases x (site .S) (path .rest) (rw (path .from-S) at h))
+  where
+    go : (x ≡ site .S) ⊎ (among x (path .rest) ≡ true) → x < site .n
+    go (inl e) = omega (arith, valid .S-below)
+    go (inr e) = leads-below site x (site .S) (path .rest) (path .to-T) e
+
+-- a path has no more radios than the map
+pub path-few : {site : Site} → Valid site → {p : List ℕ} → Path site p → length p ≤ site .n
+path-few {site} valid {p} path = different-below p (site .n) (path .different) (path-below valid path)
+
 -- how many radios the paths list, one after another
 unfoldable pub radiosIn : List (List ℕ) → ℕ
 radiosIn [] = 0
@@ -123,14 +134,10 @@ module _ (site : Site) (valid : Valid site) where
       let on : among x p ≡ true = erase-among (site .S) x p there in
       record {
         on = on;
-        below = go (among-cases x (site .S) (path .rest) (rw (path .from-S) at on));
+        below = path-below valid path x on;
         not-S = λ e. clash (rw e at there) (without-S .1);
         not-T = λ e. clash (rw e at h) (erase-different (site .T) (erase (site .S) p) (without-S .0) .1);
       }
-    where
-      go : (x ≡ site .S) ⊎ (among x (path .rest) ≡ true) → x < site .n
-      go (inl e) = omega (arith, valid .S-below)
-      go (inr e) = leads-below site x (site .S) (path .rest) (path .to-T) e
 
   inner-different : (p : List ℕ) → Path site p → Different (inner p)
   inner-different p path = erase-different (site .T) (erase (site .S) p) (erase-different (site .S) p (path .different) .0) .0

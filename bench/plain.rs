@@ -1,0 +1,259 @@
+//! A plain Rust version of the survey: document 01's rules written straight down.
+//!
+//! It keeps a byte for each mark and each entered half and looks for the next candidate by going
+//! through the table's row, as a first version by hand would.
+
+mod exported;
+
+use exported::{Asked, Lent, Outcome};
+
+const FEWEST_RADIOS: usize = 2;
+const MOST_RADIOS: usize = 64;
+const MOST_LINKS: usize = 256;
+const MOST_WANTED: usize = 8;
+const MOST_HALVES: usize = 2 * MOST_RADIOS;
+const DIRECT_LINK: u8 = 255;
+
+const PDT: u8 = 1;
+const PDT_B: u8 = 2;
+const PMT: u8 = 3;
+const DONE: u8 = 4;
+
+pub fn survey(asked: &Asked, lent: Lent) -> Outcome {
+    lent.log.fill(0);
+    lent.paths.fill(0);
+    lent.cut.fill(0);
+    if let Err(refused) = judge(asked, &lent) {
+        return refused;
+    }
+    let mut search = Search {
+        asked,
+        marked: [[false; MOST_RADIOS]; MOST_RADIOS],
+        entered: [false; MOST_HALVES],
+        log: lent.log,
+        messages: 0,
+        round: 0,
+    };
+    let mut found = 0;
+    while found < asked.wanted && found == search.round {
+        search.round += 1;
+        if search.play_round() {
+            found += 1;
+        }
+    }
+    search.walk_done(found < search.round, lent.paths, lent.cut);
+    Outcome {
+        refusal: 0,
+        place: 0,
+        paths: found,
+        rounds: search.round,
+        messages: search.messages,
+    }
+}
+
+fn judge(asked: &Asked, lent: &Lent) -> Result<(), Outcome> {
+    let refuse = |number| Err(Outcome::refused(number, 0));
+    let (n, table) = (asked.radios, asked.table);
+    let (s, t, k) = (asked.source, asked.destination, asked.wanted);
+    if !(FEWEST_RADIOS..=MOST_RADIOS).contains(&n) {
+        return refuse(1);
+    }
+    if table.len() != n * n {
+        return refuse(2);
+    }
+    let mut links = 0;
+    for row in 0..n {
+        for column in 0..n {
+            let cell = table[row * n + column];
+            if cell > 1 || (row == column && cell != 0) || cell != table[column * n + row] {
+                return Err(Outcome::refused(3, row * n + column));
+            }
+            if row < column && cell == 1 {
+                links += 1;
+            }
+        }
+    }
+    if links > MOST_LINKS {
+        return refuse(4);
+    }
+    if s >= n || t >= n || s == t {
+        return refuse(5);
+    }
+    if k == 0 || k > MOST_WANTED {
+        return refuse(6);
+    }
+    let degree = |radio: usize| (0..n).filter(|other| table[radio * n + other] == 1).count();
+    let direct = usize::from(table[s * n + t] == 1);
+    let steps = 2 * links + direct + n - 2 - degree(s) - degree(t);
+    if lent.log.len() < 4 * (2 * k + 1) * steps {
+        return refuse(7);
+    }
+    if lent.paths.len() < n - 2 + 3 * k || lent.cut.len() < k {
+        return refuse(8);
+    }
+    Ok(())
+}
+
+struct Search<'call> {
+    asked: &'call Asked<'call>,
+    /// The link step from u's out half to v's in half at [u][v]; the step inside v at [v][v].
+    marked: [[bool; MOST_RADIOS]; MOST_RADIOS],
+    entered: [bool; MOST_HALVES],
+    log: &'call mut [u8],
+    messages: usize,
+    round: usize,
+}
+
+impl Search<'_> {
+    fn linked(&self, one: usize, other: usize) -> bool {
+        self.asked.table[one * self.asked.radios + other] == 1
+    }
+
+    /// Whether half `from` can walk to the other kind of half of `radio`, now.
+    fn can_walk(&self, from: usize, radio: usize) -> bool {
+        let (s, t) = (self.asked.source, self.asked.destination);
+        let own = from / 2;
+        let forwards = (from % 2 == 1) != (own == radio);
+        let exists = if own == radio {
+            own != s && own != t
+        } else if from % 2 == 1 {
+            radio != s && self.linked(own, radio)
+        } else {
+            radio != t && self.linked(own, radio)
+        };
+        let marked = if from % 2 == 1 {
+            self.marked[own][radio]
+        } else {
+            self.marked[radio][own]
+        };
+        exists && marked != forwards
+    }
+
+    fn write(&mut self, kind: u8, from: usize, to: usize) {
+        let at = 4 * self.messages;
+        self.log[at] = kind;
+        self.log[at + 1] = self.round as u8;
+        self.log[at + 2] = from as u8;
+        self.log[at + 3] = to as u8;
+        self.messages += 1;
+    }
+
+    /// Turns the mark of the step between an in half and an out half.
+    fn turn(&mut self, one: usize, other: usize) {
+        let (out, into) = if one % 2 == 1 {
+            (one, other)
+        } else {
+            (other, one)
+        };
+        let mark = &mut self.marked[out / 2][into / 2];
+        *mark = !*mark;
+    }
+
+    /// One round; true if it found a path.
+    fn play_round(&mut self) -> bool {
+        let n = self.asked.radios;
+        self.entered = [false; MOST_HALVES];
+        // The halves that wait, each with the first place of its order not tried. Places 0 to
+        // n − 1 are the other radios, place n is the half's own other half.
+        let mut waiting = [0usize; MOST_HALVES];
+        let mut place = [0usize; MOST_HALVES];
+        let mut depth = 0;
+        waiting[0] = 2 * self.asked.source + 1;
+        self.entered[waiting[0]] = true;
+        loop {
+            let here = waiting[depth];
+            let own = here / 2;
+            let mut next = None;
+            while next.is_none() && place[depth] <= n {
+                let tried = place[depth];
+                place[depth] += 1;
+                let radio = if tried == n { own } else { tried };
+                if (tried == n || tried != own) && self.can_walk(here, radio) {
+                    next = Some(2 * radio + (1 - here % 2));
+                }
+            }
+            let Some(next) = next else {
+                if depth == 0 {
+                    return false;
+                }
+                depth -= 1;
+                self.write(PDT_B, here, waiting[depth]);
+                continue;
+            };
+            self.write(PDT, here, next);
+            if next == 2 * self.asked.destination {
+                self.entered[next] = true;
+                let mut sender = next;
+                for &receiver in waiting[..=depth].iter().rev() {
+                    self.write(PMT, sender, receiver);
+                    self.turn(sender, receiver);
+                    sender = receiver;
+                }
+                return true;
+            }
+            if self.entered[next] {
+                self.write(PDT_B, next, here);
+            } else {
+                self.entered[next] = true;
+                depth += 1;
+                waiting[depth] = next;
+                place[depth] = 0;
+            }
+        }
+    }
+
+    fn walk_done(&mut self, is_short: bool, paths: &mut [u8], cut: &mut [u8]) {
+        let (n, s) = (self.asked.radios, self.asked.source);
+        let mut used = 0;
+        let mut items = 0;
+        for first in 0..n {
+            if first == s || !self.marked[s][first] {
+                continue;
+            }
+            let length = self.walk_path(first, &mut paths[used..]);
+            if is_short {
+                cut[items] = self.cut_item(&paths[used + 1..used + 1 + length]);
+                items += 1;
+            }
+            used += 1 + length;
+        }
+    }
+
+    fn walk_path(&mut self, first: usize, path: &mut [u8]) -> usize {
+        let (n, t) = (self.asked.radios, self.asked.destination);
+        path[1] = self.asked.source as u8;
+        let mut length = 1;
+        let (mut here, mut next) = (self.asked.source, first);
+        loop {
+            self.write(DONE, 2 * here + 1, 2 * next);
+            length += 1;
+            path[length] = next as u8;
+            if next == t {
+                path[0] = length as u8;
+                return length;
+            }
+            self.write(DONE, 2 * next, 2 * next + 1);
+            here = next;
+            next = (0..n)
+                .find(|&other| other != here && self.marked[here][other])
+                .unwrap_or(t);
+        }
+    }
+
+    fn cut_item(&self, path: &[u8]) -> u8 {
+        let t = self.asked.destination as u8;
+        for (place, &radio) in path.iter().enumerate().skip(1) {
+            if !self.entered[2 * radio as usize] {
+                return match (radio == t, place) {
+                    (false, _) => radio,
+                    (true, 1) => DIRECT_LINK,
+                    (true, _) => path[place - 1],
+                };
+            }
+            if !self.entered[2 * radio as usize + 1] {
+                return radio;
+            }
+        }
+        DIRECT_LINK
+    }
+}

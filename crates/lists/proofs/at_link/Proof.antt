@@ -1,0 +1,16 @@
+-- `lists::at_link` meets its contract. Assumes nothing.
+use borrow.Author.Tests.{eq-eqb, ne-eqb}
+use Rattle.lists.proofs.at_link.Statement.{statement}
+use Rattle.lists.proofs.at_link.Tie as tie
+
+returns : tie.Need-returns
+returns c = simp (ne-eqb _ _ (c .if1 .taken))
+
+returns-2 : tie.Need-returns-2
+returns-2 c = simp (eq-eqb _ _ (c .before .if1 .left), ne-eqb _ _ (c .if2 .taken))
+
+returns-3 : tie.Need-returns-3
+returns-3 c = simp (eq-eqb _ _ (c .before .if1 .left), eq-eqb _ _ (c .if2 .left))
+
+pub at-link-spec : {M : Type 1} → statement M
+at-link-spec = tie.close (tie.spec returns returns-2 returns-3)

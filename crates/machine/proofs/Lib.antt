@@ -1,0 +1,2 @@
+pub mod Stack
+pub mod Stages

@@ -1,0 +1,92 @@
+/* Fogsignaller: surveys a map of radios for paths that share no radio between their ends.
+ *
+ * One call, proved to leave exactly what document 01 says, in every number and every byte, for
+ * every input. It allocates nothing, keeps nothing between calls and calls back nobody, so calls
+ * from several threads are fine as long as their buffers are different.
+ *
+ * Build the library with `rt staticlib survey`; link target/staticlib/libsurvey.a. It is for
+ * x86-64 (64-bit size_t).
+ */
+#ifndef FOGSIGNALLER_H
+#define FOGSIGNALLER_H
+
+#include <stddef.h>
+#include <stdint.h>
+
+#ifdef __cplusplus
+extern "C" {
+#endif
+
+/* Why a call was refused. They are tried in this order and the first that holds is given. */
+enum fog_refusal {
+    FOG_ACCEPTED = 0,
+    FOG_NUMBER_OF_RADIOS = 1, /* n is below 2 or above 64 */
+    FOG_TABLE_LENGTH = 2,     /* table_len is not n*n */
+    FOG_CELL = 3,             /* a cell is not 0 or 1, or is on the diagonal and not 0, or differs
+                                 from its mirror cell; place is the first such cell, i*n+j */
+    FOG_TOO_MANY_LINKS = 4,   /* more than 256 links */
+    FOG_ENDS = 5,             /* s or t is not below n, or they are equal */
+    FOG_WANTED = 6,           /* k is 0 or above 8 */
+    FOG_LOG_TOO_SHORT = 7,    /* log_len is below 4*(2k+1)*A */
+    FOG_LIST_TOO_SHORT = 8    /* paths_len is below n-2+3k, or cut_len is below k */
+};
+
+/* The kinds of message in the log. */
+enum fog_kind {
+    FOG_PDT = 1,   /* path discovery token */
+    FOG_PDT_B = 2, /* the token comes back: no path that way */
+    FOG_PMT = 3,   /* path made: the step's mark is reversed */
+    FOG_DONE = 4   /* walks each path once after the last round */
+};
+
+/* How the cut list names the direct link between s and t. */
+#define FOG_DIRECT_LINK 255
+
+/* Lengths that are enough for every accepted call. */
+#define FOG_LOG_ALWAYS_ENOUGH 39032 /* 4*17*574: k is at most 8 and A at most 574 */
+#define FOG_PATHS_ALWAYS_ENOUGH 86  /* 62 radios inside paths, and a length and two ends for 8 */
+#define FOG_CUT_ALWAYS_ENOUGH 8     /* one item a path */
+
+/* The numbers that a call returns. After a refusal the three counts are 0. */
+struct fog_outcome {
+    size_t refusal;  /* an enum fog_refusal; 0 if the call was accepted */
+    size_t place;    /* the bad cell for FOG_CELL, else 0 */
+    size_t paths;    /* how many paths were found: k, or all there are where there are fewer */
+    size_t rounds;   /* how many rounds were started */
+    size_t messages; /* how many messages were sent; the log's used bytes divided by 4 */
+};
+
+/* Finds up to k paths from radio s to radio t that share no radio but these two.
+ *
+ * n      the number of radios, 2 to 64; they are numbered from 0.
+ * table  n*n bytes, row by row: cell i*n+j is 1 if radios i and j are linked, else 0. Symmetric,
+ *        with a zero diagonal, at most 256 links. It is only read.
+ * log    gets every message in the order sent, four bytes each: kind, round, sending half,
+ *        receiving half. Radio v's in half is number 2v, its out half 2v+1. It must have room for
+ *        4*(2k+1)*A bytes, where
+ *            A = 2m - deg(s) - deg(t) + (1 if s and t are linked, else 0) + n - 2
+ *        with m the number of links and deg(v) the number of radios linked to v.
+ *        FOG_LOG_ALWAYS_ENOUGH bytes are enough for every call. Where A is 0 no byte is needed.
+ * paths  gets, for each path, its number of radios and then the radios from s to t. It must have
+ *        room for n-2+3k bytes.
+ * cut    gets, where fewer than k paths exist, one byte a path: a radio, or FOG_DIRECT_LINK. Every
+ *        path from s to t in the map holds one of these radios or is the direct link that the cut
+ *        names. Where k paths were found the cut is empty. It must have room for k bytes.
+ *
+ * Every byte of the three buffers is written: those past the used ones become 0, and a refused
+ * call leaves nothing but zeros. What they held before does not matter.
+ *
+ * The table and the three buffers must not overlap one another, not even in one byte; the call is
+ * proved for buffers that stand apart, and nothing is promised for others. No pointer may be null,
+ * not even one whose length is 0: pass any other pointer there, for example the address of a local
+ * variable. Each pointer must lead to as many bytes as its length says. No alignment is needed.
+ */
+struct fog_outcome fog_survey(size_t n, const uint8_t *table, size_t table_len, size_t s, size_t t,
+                              size_t k, uint8_t *log, size_t log_len, uint8_t *paths,
+                              size_t paths_len, uint8_t *cut, size_t cut_len);
+
+#ifdef __cplusplus
+}
+#endif
+
+#endif

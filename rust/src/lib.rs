@@ -1,0 +1,414 @@
+//! Surveys a map of radios: up to k paths from S to T that share no radio between the ends, every
+//! message that the search sent, and a cut where fewer than k paths exist.
+//!
+//! The work is done by a static library that is proved to leave exactly what the project's scope
+//! paper says. This package is a thin wrapper without dependencies; the proof does not cover it.
+//!
+//! ```
+//! use fogsignaller::{survey, CutItem, Question};
+//!
+//! // Three radios in a row: 0-1, 1-2. Two paths are wanted, and only one exists.
+//! let table = [
+//!     0, 1, 0, //
+//!     1, 0, 1, //
+//!     0, 1, 0, //
+//! ];
+//! let question = Question {
+//!     radios: 3,
+//!     table: &table,
+//!     source: 0,
+//!     destination: 2,
+//!     wanted: 2,
+//! };
+//! let found = survey(&question)?;
+//! assert!(!found.is_full());
+//! assert_eq!(found.paths().collect::<Vec<_>>(), [[0, 1, 2]]);
+//! assert_eq!(found.cut().collect::<Vec<_>>(), [CutItem::Radio(1)]);
+//! assert_eq!((found.rounds(), found.messages().len()), (2, 9));
+//! # Ok::<(), fogsignaller::Refusal>(())
+//! ```
+//!
+//! A question that is not in order is refused, with the reason in words:
+//!
+//! ```
+//! use fogsignaller::{survey, Question, Refusal};
+//!
+//! let question = Question {
+//!     radios: 2,
+//!     table: &[0, 1, 0, 0],
+//!     source: 0,
+//!     destination: 1,
+//!     wanted: 1,
+//! };
+//! let refusal = survey(&question).unwrap_err();
+//! assert_eq!(refusal, Refusal::Cell { place: 1 });
+//! assert_eq!(
+//!     refusal.to_string(),
+//!     "refused 3: the table's cell at place 1 is not 0 or 1, \
+//!      or is on the diagonal and not 0, or differs from its mirror cell"
+//! );
+//! ```
+
+#![warn(missing_docs)]
+
+mod raw;
+
+use std::error::Error;
+use std::fmt;
+
+/// A log of this length is enough for every accepted call: 4·17·574 bytes, since k is at most 8
+/// and A at most 574.
+pub const LOG_ALWAYS_ENOUGH: usize = 39_032;
+/// A path list of this length is enough for every accepted call: 62 radios inside paths, and a
+/// length and two ends for each of 8 paths.
+pub const PATHS_ALWAYS_ENOUGH: usize = 86;
+/// A cut list of this length is enough for every accepted call: one item a path.
+pub const CUT_ALWAYS_ENOUGH: usize = 8;
+
+const BYTES_A_MESSAGE: usize = 4;
+const DIRECT_LINK: u8 = 255;
+
+/// What is asked. The library judges all of it, so any numbers and any table may be given.
+#[derive(Clone, Copy, Debug)]
+pub struct Question<'table> {
+    /// n, 2 to 64. Radios are numbered from 0.
+    pub radios: usize,
+    /// n·n bytes, row by row: cell i·n+j is 1 if radios i and j are linked, else 0.
+    pub table: &'table [u8],
+    /// S, where the paths begin.
+    pub source: usize,
+    /// T, where the paths end.
+    pub destination: usize,
+    /// k, how many paths are wanted, 1 to 8.
+    pub wanted: usize,
+}
+
+/// The three buffers that a caller lends to [`survey_into`].
+///
+/// The log needs 4·(2k+1)·A bytes, where A = 2m − deg S − deg T + (1 if S and T are linked,
+/// else 0) + n − 2 and m is the number of links. The path list needs n−2+3k bytes, the cut list k.
+/// [`LOG_ALWAYS_ENOUGH`], [`PATHS_ALWAYS_ENOUGH`] and [`CUT_ALWAYS_ENOUGH`] are enough for all.
+#[derive(Debug)]
+pub struct Buffers<'buffers> {
+    /// Gets four bytes a message.
+    pub log: &'buffers mut [u8],
+    /// Gets each path's number of radios and then its radios.
+    pub paths: &'buffers mut [u8],
+    /// Gets one byte a cut item.
+    pub cut: &'buffers mut [u8],
+}
+
+/// Why a question was refused. They are tried in this order, and the first that holds is given.
+#[derive(Clone, Copy, Debug, PartialEq, Eq, Hash)]
+pub enum Refusal {
+    /// n is below 2 or above 64.
+    NumberOfRadios,
+    /// The table's length is not n·n.
+    TableLength,
+    /// A cell is not 0 or 1, or is on the diagonal and not 0, or differs from its mirror cell.
+    Cell {
+        /// The first such cell in row order, counted from 0.
+        place: usize,
+    },
+    /// There are more than 256 links.
+    TooManyLinks,
+    /// S or T is not below n, or they are the same radio.
+    Ends,
+    /// k is 0 or above 8.
+    Wanted,
+    /// The log is shorter than 4·(2k+1)·A bytes.
+    LogTooShort,
+    /// The path list is shorter than n−2+3k bytes, or the cut list is shorter than k bytes.
+    ListTooShort,
+}
+
+impl Refusal {
+    /// The number that the scope paper gives to this refusal, 1 to 8.
+    pub fn number(self) -> usize {
+        match self {
+            Refusal::NumberOfRadios => 1,
+            Refusal::TableLength => 2,
+            Refusal::Cell { .. } => 3,
+            Refusal::TooManyLinks => 4,
+            Refusal::Ends => 5,
+            Refusal::Wanted => 6,
+            Refusal::LogTooShort => 7,
+            Refusal::ListTooShort => 8,
+        }
+    }
+
+    /// Nothing for an accepted call.
+    fn of(outcome: &raw::Outcome) -> Option<Refusal> {
+        match outcome.refusal {
+            0 => None,
+            1 => Some(Refusal::NumberOfRadios),
+            2 => Some(Refusal::TableLength),
+            3 => Some(Refusal::Cell {
+                place: outcome.place,
+            }),
+            4 => Some(Refusal::TooManyLinks),
+            5 => Some(Refusal::Ends),
+            6 => Some(Refusal::Wanted),
+            7 => Some(Refusal::LogTooShort),
+            8 => Some(Refusal::ListTooShort),
+            number => panic!(
+                "the library gave refusal number {number}, which this package does not know: \
+                 libsurvey.a and the package are not of the same version"
+            ),
+        }
+    }
+}
+
+impl fmt::Display for Refusal {
+    fn fmt(&self, formatter: &mut fmt::Formatter<'_>) -> fmt::Result {
+        write!(formatter, "refused {}: ", self.number())?;
+        match self {
+            Refusal::NumberOfRadios => write!(formatter, "the number of radios is not 2 to 64"),
+            Refusal::TableLength => write!(
+                formatter,
+                "the table's length is not the number of radios times itself"
+            ),
+            Refusal::Cell { place } => write!(
+                formatter,
+                "the table's cell at place {place} is not 0 or 1, or is on the diagonal and \
+                 not 0, or differs from its mirror cell"
+            ),
+            Refusal::TooManyLinks => write!(formatter, "the map has more than 256 links"),
+            Refusal::Ends => write!(
+                formatter,
+                "the source and the destination are not two different radios of the map"
+            ),
+            Refusal::Wanted => write!(formatter, "the wanted number of paths is not 1 to 8"),
+            Refusal::LogTooShort => write!(formatter, "the log buffer is too short for this map"),
+            Refusal::ListTooShort => {
+                write!(formatter, "the path list or the cut list is too short")
+            }
+        }
+    }
+}
+
+impl Error for Refusal {}
+
+/// One spot that holds the site back.
+#[derive(Clone, Copy, Debug, PartialEq, Eq, Hash)]
+pub enum CutItem {
+    /// This radio.
+    Radio(u8),
+    /// The direct link between S and T.
+    DirectLink,
+}
+
+impl fmt::Display for CutItem {
+    fn fmt(&self, formatter: &mut fmt::Formatter<'_>) -> fmt::Result {
+        match self {
+            CutItem::Radio(radio) => write!(formatter, "{radio}"),
+            CutItem::DirectLink => write!(formatter, "link"),
+        }
+    }
+}
+
+/// The four kinds of message.
+#[derive(Clone, Copy, Debug, PartialEq, Eq, Hash)]
+pub enum Kind {
+    /// The path discovery token.
+    Pdt,
+    /// The token comes back: no path that way.
+    PdtB,
+    /// A path was made; the mark of the step it goes over is reversed.
+    Pmt,
+    /// Walks each path once, after the last round.
+    Done,
+}
+
+/// One message of the log. Radio v's in half has number 2v, its out half 2v+1.
+#[derive(Clone, Copy, Debug, PartialEq, Eq, Hash)]
+pub struct Message {
+    /// What it says.
+    pub kind: Kind,
+    /// Its round, from 1; for DONE the number of rounds started.
+    pub round: u8,
+    /// The half that sent it.
+    pub from: u8,
+    /// The half that received it.
+    pub to: u8,
+}
+
+/// What an accepted survey found. `Survey` owns its bytes; `Survey<&[u8]>` has lent ones.
+#[derive(Clone, Debug, PartialEq, Eq)]
+pub struct Survey<Bytes = Vec<u8>> {
+    wanted: usize,
+    number_of_paths: usize,
+    rounds: usize,
+    log: Bytes,
+    paths: Bytes,
+    cut: Bytes,
+}
+
+impl<Bytes: AsRef<[u8]>> Survey<Bytes> {
+    /// Whether as many paths were found as were wanted.
+    pub fn is_full(&self) -> bool {
+        self.number_of_paths == self.wanted
+    }
+
+    /// How many rounds were started.
+    pub fn rounds(&self) -> usize {
+        self.rounds
+    }
+
+    /// The paths in the order in which DONE walked them, each the radios from S to T.
+    pub fn paths(&self) -> Paths<'_> {
+        Paths {
+            left: self.number_of_paths,
+            bytes: self.paths.as_ref(),
+        }
+    }
+
+    /// The cut, one item a path in path order; empty where the survey is full. Every path from S
+    /// to T in the map holds one of these radios or is the direct link that the cut names.
+    pub fn cut(&self) -> impl ExactSizeIterator<Item = CutItem> + '_ {
+        let items = if self.is_full() {
+            0
+        } else {
+            self.number_of_paths
+        };
+        self.cut.as_ref()[..items].iter().map(|&item| match item {
+            DIRECT_LINK => CutItem::DirectLink,
+            radio => CutItem::Radio(radio),
+        })
+    }
+
+    /// Every message in the order sent.
+    pub fn messages(&self) -> impl ExactSizeIterator<Item = Message> + '_ {
+        let messages = self.log.as_ref().chunks_exact(BYTES_A_MESSAGE);
+        messages.map(|bytes| Message {
+            kind: match bytes[0] {
+                1 => Kind::Pdt,
+                2 => Kind::PdtB,
+                3 => Kind::Pmt,
+                _ => Kind::Done,
+            },
+            round: bytes[1],
+            from: bytes[2],
+            to: bytes[3],
+        })
+    }
+
+    /// The log's used bytes, four a message.
+    pub fn log_bytes(&self) -> &[u8] {
+        self.log.as_ref()
+    }
+}
+
+/// The paths of a survey; see [`Survey::paths`].
+#[derive(Clone, Debug)]
+pub struct Paths<'survey> {
+    left: usize,
+    bytes: &'survey [u8],
+}
+
+impl<'survey> Iterator for Paths<'survey> {
+    type Item = &'survey [u8];
+
+    fn next(&mut self) -> Option<&'survey [u8]> {
+        if self.left == 0 {
+            return None;
+        }
+        let (&length, rest) = self.bytes.split_first()?;
+        let (path, rest) = rest.split_at(usize::from(length));
+        self.left -= 1;
+        self.bytes = rest;
+        Some(path)
+    }
+
+    fn size_hint(&self) -> (usize, Option<usize>) {
+        (self.left, Some(self.left))
+    }
+}
+
+impl ExactSizeIterator for Paths<'_> {}
+
+/// Surveys a map with buffers of its own, so [`Refusal::LogTooShort`] and
+/// [`Refusal::ListTooShort`] do not come from it.
+pub fn survey(question: &Question) -> Result<Survey, Refusal> {
+    let mut log = vec![0; LOG_ALWAYS_ENOUGH];
+    let mut paths = vec![0; PATHS_ALWAYS_ENOUGH];
+    let mut cut = vec![0; CUT_ALWAYS_ENOUGH];
+    let found = survey_into(
+        question,
+        Buffers {
+            log: &mut log,
+            paths: &mut paths,
+            cut: &mut cut,
+        },
+    )?;
+    Ok(Survey {
+        wanted: found.wanted,
+        number_of_paths: found.number_of_paths,
+        rounds: found.rounds,
+        log: found.log.to_vec(),
+        paths: found.paths.to_vec(),
+        cut: found.cut.to_vec(),
+    })
+}
+
+/// Surveys a map with lent buffers and allocates nothing. Every byte of them is written: those
+/// past the used ones become 0, and after a refusal all are 0.
+///
+/// ```
+/// use fogsignaller::{survey_into, Buffers, CutItem, Question};
+///
+/// // Two linked radios and two paths wanted: the direct link serves one path at most. A is 1 here,
+/// // so the log needs 4·5·1 bytes, the path list 0+6 and the cut list 2.
+/// let (mut log, mut paths, mut cut) = ([7; 20], [7; 6], [7; 2]);
+/// let question = Question {
+///     radios: 2,
+///     table: &[0, 1, 1, 0],
+///     source: 0,
+///     destination: 1,
+///     wanted: 2,
+/// };
+/// let found = survey_into(
+///     &question,
+///     Buffers {
+///         log: &mut log,
+///         paths: &mut paths,
+///         cut: &mut cut,
+///     },
+/// )?;
+/// assert_eq!(found.paths().next(), Some(&[0, 1][..]));
+/// assert_eq!(found.cut().next(), Some(CutItem::DirectLink));
+/// assert_eq!(paths, [2, 0, 1, 0, 0, 0]);
+/// # Ok::<(), fogsignaller::Refusal>(())
+/// ```
+pub fn survey_into<'buffers>(
+    question: &Question,
+    lent: Buffers<'buffers>,
+) -> Result<Survey<&'buffers [u8]>, Refusal> {
+    let asked = raw::Asked {
+        radios: question.radios,
+        table: question.table,
+        source: question.source,
+        destination: question.destination,
+        wanted: question.wanted,
+    };
+    let outcome = raw::fog_survey(&asked, lent.log, lent.paths, lent.cut);
+    if let Some(refusal) = Refusal::of(&outcome) {
+        return Err(refusal);
+    }
+    let (log, paths, cut): (&[u8], &[u8], &[u8]) = (lent.log, lent.paths, lent.cut);
+    let found = Survey {
+        wanted: question.wanted,
+        number_of_paths: outcome.paths,
+        rounds: outcome.rounds,
+        log: &log[..BYTES_A_MESSAGE * outcome.messages],
+        paths,
+        cut,
+    };
+    let used = found.paths().map(|path| 1 + path.len()).sum();
+    let items = found.cut().len();
+    Ok(Survey {
+        paths: &paths[..used],
+        cut: &cut[..items],
+        ..found
+    })
+}
