@@ -227,3 +227,13 @@ any-two-map R f (x ∷ list) d two = (
   all-map (R (f x)) f list (λ y h. two x y (among-here x list) (among-there y x list h) (λ (e : x ≡ y). clash (rw e h) (d .0))),
   any-two-map R f list (d .1) (λ y z h h′. two y z (among-there y x list h) (among-there z x list h′)),
 )
+
+-- a property of each is one of each where it follows
+pub all-follow {ℓ} : {A : Type ℓ} (P Q : A → Type 0) → ((x : A) → P x → Q x) → (list : List A) → All P list → All Q list
+all-follow P Q follows [] all = tt
+all-follow P Q follows (x ∷ list) all = (follows x (all .0), all-follow P Q follows list (all .1))
+
+-- what holds of every number among a list holds of each of it
+pub all-from : (P : ℕ → Type 0) (list : List ℕ) → ((x : ℕ) → among x list ≡ true → P x) → All P list
+all-from P [] holds = tt
+all-from P (x ∷ list) holds = (holds x (among-here x list), all-from P list (λ y h. holds y (among-there y x list h)))

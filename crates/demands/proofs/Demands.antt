@@ -12,8 +12,9 @@ use lib.ListN.{length, length-append}
 use borrow.Author.Tests.{eq-eqb, lt-ltb, le-ltb}
 use Rattle.basics.specs.Lists.{All}
 use Rattle.site.specs.Map.{Site, inHalf, outHalf, A}
-use Rattle.site.specs.Paths.{DisjointPaths, Largest}
+use Rattle.site.specs.Paths.{Path, DisjointPaths, Largest}
 use Rattle.site.specs.Refusals.{Call, mostMessages, verdict, number}
+use Rattle.site.proofs.Exactly.{no-place}
 use Rattle.site.proofs.Valid.{Valid, Room, accepted-valid, accepted-room}
 use Rattle.tokens.specs.Rules.{Notes, won, carrying, start}
 use Rattle.tokens.specs.Run.{Entry, Run, notesOf, runFrom, pathsOf, cutOf}
@@ -29,7 +30,7 @@ use Rattle.routes.proofs.Split.{split-of}
 use Rattle.routes.proofs.Most.{few-units, largest}
 use Rattle.rounds.proofs.Shows.{Leads}
 use Rattle.rounds.proofs.Depth.{round-played}
-use Rattle.outcome.specs.Leaves.{runOf, pathsFound, cutFound, logBytes, pathBytes, outcome}
+use Rattle.outcome.specs.Leaves.{runOf, pathsFound, cutFound, logBytes, pathBytes, zerosAfter, outcome, logLeft, pathsLeft, cutLeft}
 use Rattle.demands.specs.Demand2.{Demand2}
 use Rattle.demands.specs.Demand3.{Demand3}
 use Rattle.demands.proofs.Whole.{Ran, run-is, ran}
@@ -153,7 +154,7 @@ module _ (call : Call) (accepted : outcome call .refusal ≡ 0) where
   disjoint = rw paths-are (paths-disjoint valid (r .flow))
 
   -- no more than k come back
-  at-most : outcome call .paths ≤ call .k
+  pub at-most : outcome call .paths ≤ call .k
   at-most = cases (r .outcome)
     where
       cases : ((r .last .found ≡ call .k) × (r .last .round ≡ call .k)) ⊎ ((r .last .found < call .k) × (r .last .round ≡ suc (r .last .found)) × Shut (networkOf (call .site)) (r .last .marks) (r .last .entered)) → outcome call .paths ≤ call .k
@@ -240,3 +241,33 @@ module _ (call : Call) (accepted : outcome call .refusal ≡ 0) where
   -- the run ends with DONE at T, unless there is no path: DONE never fails on its way
   pub done-comes-to-T : (outcome call .paths ≡ 0) ⊎ ((v : ℕ) × (runOf call .last ≡ carrying v (inHalf (call .site .T)) (notesOf (runOf call .last))))
   done-comes-to-T = rw (paths-found, notes-are, run) (r .at-T)
+
+  -- ---- what an accepted call leaves, in the words of its run
+
+  pub numbers-left : outcome call ≡ record { refusal = 0; place = 0; paths = length (pathsFound call); rounds = notesOf (runOf call .last) .round; messages = length (runOf call .log) }
+  unfolding outcome
+  numbers-left = λ i. record {
+    refusal = no-refusal i;
+    place = no-place (verdict call) (λ (e : number (verdict call) ≡ 3). omega (arith, no-refusal)) i;
+    paths = counted (length (pathsFound call)) 0 i;
+    rounds = counted (notesOf (runOf call .last) .round) 0 i;
+    messages = counted (length (runOf call .log)) 0 i;
+  }
+
+  pub log-left : logLeft call ≡ zerosAfter (call .logLength) (logBytes (runOf call .log))
+  unfolding logLeft
+  log-left = ap (zerosAfter (call .logLength)) (counted (logBytes (runOf call .log)) [])
+
+  pub paths-left : pathsLeft call ≡ zerosAfter (call .pathsLength) (pathBytes (pathsFound call))
+  unfolding pathsLeft
+  paths-left = ap (zerosAfter (call .pathsLength)) (counted (pathBytes (pathsFound call)) [])
+
+  pub cut-left : cutLeft call ≡ zerosAfter (call .cutLength) (cond (ltb (length (pathsFound call)) (call .k)) (cutOf (call .site) (notesOf (runOf call .last) .entered) (pathsFound call)) [])
+  unfolding cutLeft cutFound
+  cut-left =
+      ap (zerosAfter (call .cutLength))
+      (counted (cutFound call) [] ∙ ap (λ (n : ℕ). cond (ltb n (call .k)) (cutOf (call .site) (notesOf (runOf call .last) .entered) (pathsFound call)) []) (ap (λ (notes : Notes). notes .found) notes-are ∙ sym paths-found ∙ paths-counted))
+
+  -- its paths are short lists of radios of the map
+  pub paths-of-the-map : All (Path (call .site)) (pathsFound call)
+  paths-of-the-map = disjoint .each

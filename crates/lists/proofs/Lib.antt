@@ -1,7 +1,3 @@
-pub mod Stores
+pub mod Zeros
 pub mod PathList
-pub mod Log
-pub mod Walking
-pub mod Tail
-pub mod AllPaths
 pub mod Cutting

@@ -1,2 +1,2 @@
-pub mod Stack
+pub mod Room
 pub mod Stages

@@ -24,7 +24,7 @@ use Rattle.machine.specs.View.{Shows, marksOf, Mirrors, enteredOf, waiti
 use Rattle.machine.specs.Sane.{Joined, Asked, depth, Stacked, Under, Sane}
 use Rattle.machine.specs.Step.{Fits, Ready, Told}
 use Rattle.machine.specs.Parts.{Grants, Stands, Answers}
-use Rattle.machine.proofs.Stack.{count-most, count-fewer}
+use Rattle.machine.proofs.Room.{count-most, count-fewer}
 
 -- ---- a half that was asked is a half of the site
 
@@ -67,11 +67,11 @@ depth-of halves places zero = refl
 depth-of halves places (suc d) = ap suc (depth-of halves places d)
 
 -- where the state is one that a run comes to, some half waits
-pub some-search : (site : Site) (k : ℕ) (notes : Notes) (halves places : List ℕ) (d : ℕ) → Sane site k (searching notes (waitingOf halves places d)) → d ≡ suc (d - 1)
+some-search : (site : Site) (k : ℕ) (notes : Notes) (halves places : List ℕ) (d : ℕ) → Sane site k (searching notes (waitingOf halves places d)) → d ≡ suc (d - 1)
 some-search site k notes halves places zero sane = absurd sane
 some-search site k notes halves places (suc d) sane = omega arith
 
-pub some-decline : (site : Site) (k y : ℕ) (notes : Notes) (halves places : List ℕ) (d : ℕ) → Sane site k (declining y notes (waitingOf halves places d)) → d ≡ suc (d - 1)
+some-decline : (site : Site) (k y : ℕ) (notes : Notes) (halves places : List ℕ) (d : ℕ) → Sane site k (declining y notes (waitingOf halves places d)) → d ≡ suc (d - 1)
 some-decline site k y notes halves places zero sane = absurd sane
 some-decline site k y notes halves places (suc d) sane = omega arith
 

@@ -1,15 +1,15 @@
 -- What the machine's numbers, sets and bytes stand for: the state of the token rules.
 use mathlib.Core.Path.{_≡_}
 use mathlib.Core.List.{List}
-use Prim.Native.Nat.{ℕ, zero, suc}
-use lib.Dec.{eqb}
+use Prim.Native.Nat.{ℕ}
 use lib.ListN.{getD}
 use Rattle.radios.specs.Member.{member}
 use Rattle.site.specs.Map.{Site, linked}
-use Rattle.tokens.specs.Rules.{Entered, Notes, Waiting, nobody, waits, State, searching, declining, granting, won, carrying, Next, sends, over}
+use Rattle.tokens.specs.Rules.{Notes, Waiting, State, searching, declining, granting, won, carrying, Next, sends, over}
 use Rattle.tokens.specs.declared.Answer.{Answer}
 use Rattle.tokens.specs.declared.Answer.the-variants.{Sent, End}
-pub use Rattle.marks.specs.Rows.{marksOf, Mirrors}
+pub use Rattle.halves.specs.Bytes.{enteredOf, waitingOf}
+pub use Rattle.marks.specs.Rows.{likeAStep, marksOf, Mirrors}
 use Rattle.machine.specs.declared.Task.{Task}
 use Rattle.machine.specs.declared.Stage.{Stage}
 use Rattle.machine.specs.declared.Stage.the-variants.{Searching, Declining, Granting, Won, Carrying}
@@ -23,17 +23,6 @@ pub record Shows (site : Site) (task : Task) (links : List ℕ) : Type 0 where
   pub source : site .S ≡ task .s
   pub sink : site .T ≡ task .t
   pub rows : (u v : ℕ) → member v (getD links u 0) ≡ linked (site .table) (site .n) u v
-
--- ---- a byte for each half: 1 if it is entered
-
-abbrev pub enteredOf : List ℕ → Entered
-enteredOf bytes h = eqb (getD bytes h 0) 1
-
--- ---- the halves that wait, the last one at the highest place
-
-abbrev pub waitingOf : List ℕ → List ℕ → ℕ → Waiting
-waitingOf halves places zero = nobody
-waitingOf halves places (suc depth) = waits (getD halves depth 0) (getD places depth 0) (waitingOf halves places depth)
 
 -- ---- all together
 

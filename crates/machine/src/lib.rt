@@ -1,13 +1,12 @@
 // One inner step of the token rules, on sets of radios and bytes that the caller lends.
 ghost use mathlib.Core.Path.{_≡_};
-ghost use mathlib.Core.Bool.{true, false, _||_};
+ghost use mathlib.Core.Bool.{true, false};
 ghost use mathlib.Core.List.{List};
 ghost use Prim.Native.Nat.{ℕ, suc, _+_, _*_, _≤_, _<_};
 ghost use lib.Dec.{eqb};
-ghost use lib.ListN.{getD};
 ghost use Rattle.site.specs.Limits.{mostRadios};
 ghost use Rattle.site.specs.Map.{Site, inHalf};
-ghost use Rattle.tokens.specs.Rules.{searching, won, carrying, waits, gets, tries, passOn, release, decline};
+ghost use Rattle.tokens.specs.Rules.{searching, won, carrying, gets, tries, passOn, release, decline};
 ghost use Rattle.machine.specs.View.{enteredOf, waitingOf, notesIn, stateOf, nextOf};
 ghost use Rattle.machine.specs.Parts.{Sends, Grants, Granted, Stands, Answers};
 ghost use Rattle.machine.specs.Step.{Ready, Told};
@@ -45,9 +44,6 @@ pub struct Stepped {
     pub answer: Answer,
     pub machine: Machine,
 }
-
-// There are at most so many halves, two to a radio.
-const MOST_HALVES: usize = 128;
 
 // A byte's number.
 fn wide(byte: u8) -> usize
@@ -128,57 +124,6 @@ fn carries(task: Task, machine: Machine, marks: &[u64; 64], v: usize, h: usize) 
     )
 }
 
-// ---- the halves that are entered, and those that wait
-
-// Has half h been entered?
-fn is_entered(entered: &[u8; 128], h: usize) -> bool
-    requires { ⌜ h < 2 * mostRadios ⌝ }
-    ensures { λ r. ⌜ r ≡ enteredOf (now (entered .entry)) h ⌝ }
-{
-    entered[h] == 1
-}
-
-// Half h is entered.
-fn enter(entered: &mut [u8; 128], h: usize)
-    requires { ⌜ h < 2 * mostRadios ⌝ }
-    ensures { λ r. ⌜ enteredOf (now (entered .exit)) ≡ (λ x. eqb x h || enteredOf (now (entered .entry)) x) ⌝ }
-{
-    let s = &mut entered[..];
-    s[h] = 1;
-}
-
-// No half is entered but h.
-fn enter_only(entered: &mut [u8; 128], h: usize)
-    requires { ⌜ h < 2 * mostRadios ⌝ }
-    ensures { λ r. ⌜ enteredOf (now (entered .exit)) ≡ (λ x. eqb x h) ⌝ }
-{
-    let s = &mut entered[..];
-    for i in 0..MOST_HALVES {
-        s[i] = 0;
-    }
-    s[h] = 1;
-}
-
-// Half h waits above the first so many, and has tried no place yet.
-fn push(halves: &mut [u8; 128], places: &mut [u8; 128], depth: usize, h: usize)
-    requires { ⌜ (depth < 2 * mostRadios) × (h < 2 * mostRadios) ⌝ }
-    ensures { λ r. ⌜ waitingOf (now (halves .exit)) (now (places .exit)) (depth + 1) ≡ waits h 0 (waitingOf (now (halves .entry)) (now (places .entry)) depth) ⌝ }
-{
-    let s = &mut halves[..];
-    s[depth] = h as u8;
-    let p = &mut places[..];
-    p[depth] = 0;
-}
-
-// The half on top goes on at this place.
-fn go_on_at(halves: &[u8; 128], places: &mut [u8; 128], top: usize, place: usize)
-    requires { ⌜ (top < 2 * mostRadios) × (place ≤ mostRadios + 1) ⌝ }
-    ensures { λ r. ⌜ waitingOf (now (halves .entry)) (now (places .exit)) (top + 1) ≡ waits (getD (now (halves .entry)) top 0) place (waitingOf (now (halves .entry)) (now (places .entry)) top) ⌝ }
-{
-    let p = &mut places[..];
-    p[top] = place as u8;
-}
-
 // ---- rules 3 to 6, one function to a stage
 
 // Half `to` gets a PDT from the half on top: T's in half owes PMT, one that was entered before owes PDT_B, any other searches.
@@ -194,14 +139,14 @@ fn receives(
     ensures { λ r. ⌜ ((marks : List ℕ) → gets (eqb to (inHalf (task .t))) (enteredOf (now (entered .entry)) to) to (notesIn machine marks (now (entered .entry))) (waitingOf (now (halves .entry)) (now (places .entry)) (machine .depth)) ≡ stateOf r marks (now (entered .exit)) (now (halves .exit)) (now (places .exit))) ⌝ }
 {
     if to == 2 * task.t {
-        enter(entered, to);
+        halves::enter(entered, to);
         return moved(machine, Stage::Granting(to), machine.depth);
     }
-    if is_entered(entered, to) {
+    if halves::is_entered(entered, to) {
         return moved(machine, Stage::Declining(to), machine.depth);
     }
-    enter(entered, to);
-    push(halves, places, machine.depth, to);
+    halves::enter(entered, to);
+    halves::push(halves, places, machine.depth, to);
     moved(machine, Stage::Searching, machine.depth + 1)
 }
 
@@ -219,7 +164,7 @@ fn sends_on(
     ensures { λ r. ⌜ ((site : Site) (marks : List ℕ) (top : ℕ) → site .n ≡ task .n → site .T ≡ task .t → machine .depth ≡ suc top → tries true site h place (notesIn machine marks (now (entered .entry))) (waitingOf (now (halves .entry)) (now (places .entry)) top) ≡ nextOf (r .answer) (stateOf (r .machine) marks (now (entered .exit)) (now (halves .exit)) (now (places .exit)))) ⌝ }
 {
     let to = marks::half_at(task.n, h, place);
-    go_on_at(halves, places, machine.depth - 1, place + 1);
+    halves::go_on_at(halves, places, machine.depth - 1, place + 1);
     sent(
         Kind::Pdt,
         h,
@@ -323,8 +268,8 @@ fn goes_on(
         return releases(task, machine, marks, 0);
     }
     let source = 2 * task.s + 1;
-    enter_only(entered, source);
-    push(halves, places, 0, source);
+    halves::enter_only(entered, source);
+    halves::push(halves, places, 0, source);
     let begun = Machine {
         stage: Stage::Searching,
         depth: 1,

@@ -10,7 +10,8 @@ use Rattle.tokens.specs.Run.{runOn, walked, cutItem, itemOf}
 use Rattle.outcome.specs.Leaves.{runOf, pathsFound, cutFound, outcome}
 use Rattle.captures.specs.Text.{pieces, same, allDigits, value, digits}
 use Rattle.captures.specs.Capture.{headOf, lineOf, wrongLine, linksOf, came, badLine, tableWith}
-use Rattle.sheet_text.specs.Sheet.{refusedLine, reportLine, radioFields, pathLines, cutLines, sheetOf, sheet}
+use Rattle.sheet_lines.specs.Lines.{refusedLine, reportLine, radioFields, pathLines, cutLines}
+use Rattle.sheet_text.specs.Sheet.{sheetOf, sheet}
 
 -- net 7 8 0 7 3, and nine links, a line each
 abbrev textOfQ : List ℕ

@@ -18,10 +18,10 @@ use Rattle.marks.proofs.First.{first-is, first-member, first-none, firs
 
 -- ---- marks, half by half
 
-pub mark-over : (marks : List ℕ) (u v : ℕ) → marksOf marks (outHalf u) (inHalf v) ≡ (not (eqb u v) && member v (getD marks u 0))
+mark-over : (marks : List ℕ) (u v : ℕ) → marksOf marks (outHalf u) (inHalf v) ≡ (not (eqb u v) && member v (getD marks u 0))
 mark-over marks u v = simp (out-is-out u, in-is-not-out v, radio-of-out u, radio-of-in v, or-false)
 
-pub mark-inside : (marks : List ℕ) (v : ℕ) → marksOf marks (inHalf v) (outHalf v) ≡ member v (getD marks v 0)
+mark-inside : (marks : List ℕ) (v : ℕ) → marksOf marks (inHalf v) (outHalf v) ≡ member v (getD marks v 0)
 mark-inside marks v = simp (in-is-not-out v, radio-of-in v, radio-of-out v, eq-eqb (outHalf v) (outHalf v) refl)
 
 module _ (site : Site) where
@@ -76,7 +76,7 @@ together a false h = and-false a
 
 module _ (site : Site) (links marks into : List ℕ) (held : Held site links marks into) where
   -- an unmarked link step of an out half other than T's
-  pub out-to-other : (u v : ℕ) → u < site .n → (u ≡ site .T → ⊥) → v < site .n
+  out-to-other : (u v : ℕ) → u < site .n → (u ≡ site .T → ⊥) → v < site .n
       → canTry site (marksOf marks) (outHalf u) v ≡ (not (eqb v (site .S)) && (member v (getD links u 0) && not (member v (getD marks u 0))))
   out-to-other u v p nt q = pick (ℕ-discrete u v) (ℕ-discrete v (site .S))
     where
@@ -93,13 +93,13 @@ module _ (site : Site) (links marks into : List ℕ) (held : Held site links mar
           (sym (rw (ne-eqb v (site .S) s) refl))
 
   -- back over the marked step inside
-  pub out-to-own : (u : ℕ) → u < site .n → canTry site (marksOf marks) (outHalf u) (site .n) ≡ member u (getD marks u 0)
+  out-to-own : (u : ℕ) → u < site .n → canTry site (marksOf marks) (outHalf u) (site .n) ≡ member u (getD marks u 0)
   out-to-own u p =
       out-own-place site (marksOf marks) u p
       ∙ rw (none-back-inside site u) (together _ _ (held .on-steps (inHalf u) (outHalf u)) ∙ mark-inside marks u)
 
   -- back over a marked link step into an in half
-  pub in-to-other : (u v : ℕ) → u < site .n → canTry site (marksOf marks) (inHalf v) u ≡ (not (eqb u v) && member u (getD into v 0))
+  in-to-other : (u v : ℕ) → u < site .n → canTry site (marksOf marks) (inHalf v) u ≡ (not (eqb u v) && member u (getD into v 0))
   in-to-other u v p = pick (ℕ-discrete u v)
     where
       pick : Dec (u ≡ v) → canTry site (marksOf marks) (inHalf v) u ≡ (not (eqb u v) && member u (getD into v 0))
@@ -109,12 +109,12 @@ module _ (site : Site) (links marks into : List ℕ) (held : Held site links mar
           ∙ rw (none-into-another site u v e) (together _ _ (held .on-steps (outHalf u) (inHalf v)) ∙ mark-over marks u v ∙ rw (held .mirrors u v) refl)
 
   -- over the unmarked step inside, where the radio may stand inside a path
-  pub in-to-own : (v : ℕ) → v < site .n → (v ≡ site .S → ⊥) → (v ≡ site .T → ⊥) → canTry site (marksOf marks) (inHalf v) (site .n) ≡ not (member v (getD marks v 0))
+  in-to-own : (v : ℕ) → v < site .n → (v ≡ site .S → ⊥) → (v ≡ site .T → ⊥) → canTry site (marksOf marks) (inHalf v) (site .n) ≡ not (member v (getD marks v 0))
   in-to-own v p ns nt =
       in-own-place site (marksOf marks) v p
       ∙ rw (none-back-inside site v, inside-step site v p ns nt, or-false, mark-inside marks v) refl
 
-  pub in-to-own-at-T : (v : ℕ) → v < site .n → v ≡ site .T → canTry site (marksOf marks) (inHalf v) (site .n) ≡ false
+  in-to-own-at-T : (v : ℕ) → v < site .n → v ≡ site .T → canTry site (marksOf marks) (inHalf v) (site .n) ≡ false
   unfolding passes
   in-to-own-at-T v p e =
       in-own-place site (marksOf marks) v p

@@ -3,7 +3,7 @@ use mathlib.Core.Path.{_≡_, refl, _∙_, subst}
 use Prim.Native.Nat.{ℕ, _-_, _≤_}
 use native.Mathlib.Omega.{arith}
 use lib.ListN.{length, length-set}
-use Rattle.lists.proofs.Stores.{Zeroed, none-zeroed, more-zeroed, all-zeroed}
+use Rattle.lists.proofs.Zeros.{Zeroed, none-zeroed, more-zeroed, all-zeroed}
 use Rattle.lists.proofs.clear_from.Statement.{statement}
 use Rattle.lists.proofs.clear_from.Tie as tie
 

@@ -7,7 +7,7 @@ use lib.ListN.{length, getD, drop}
 use Rattle.site.specs.Map.{Site}
 use Rattle.tokens.specs.Run.{cutItem, itemOf}
 use Rattle.machine.specs.View.{enteredOf}
-use Rattle.lists.specs.Listing.{Ends}
+use Rattle.lists.specs.Cut.{Ends}
 use Rattle.lists.proofs.Cutting.{all-at, item-of-none, item-starts, item-ends, leaves-at-link, leaves-inside, stays}
 use Rattle.lists.proofs.cut_item.Statement.{statement}
 use Rattle.lists.proofs.cut_item.Tie as tie

@@ -8,7 +8,7 @@ use Rattle.site.specs.Map.{Site}
 use Rattle.tokens.specs.Run.{itemOf}
 use Rattle.outcome.specs.Leaves.{pathBytes}
 use Rattle.machine.specs.View.{enteredOf}
-use Rattle.lists.specs.Listing.{Ends, Radios, Holds}
+use Rattle.lists.specs.Cut.{Ends, Radios, Holds}
 use Rattle.lists.proofs.Cutting.{all-at, Itemed, one-more-item, all-items}
 use Rattle.lists.proofs.PathList.{Ahead, OnePath, all-ahead, path-ahead}
 use Rattle.lists.proofs.write_cut.Statement.{statement}

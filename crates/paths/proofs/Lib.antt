@@ -1,0 +1,5 @@
+pub mod Stores
+pub mod Log
+pub mod Walking
+pub mod Tail
+pub mod AllPaths

@@ -1,0 +1,4 @@
+pub mod Sane
+pub mod Heard
+pub mod Turn
+pub mod Start

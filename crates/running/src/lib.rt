@@ -1,0 +1,194 @@
+// The run that fills the log: the machine's inner steps, one after another, until the run is over or the budget is spent.
+ghost use mathlib.Core.Path.{_≡_};
+ghost use mathlib.Core.Bool.{not, _||_};
+ghost use Prim.Native.Nat.{_+_, _*_, _<_};
+ghost use lib.Dec.{eqb};
+ghost use lib.ListN.{replicate};
+ghost use Rattle.site.specs.Limits.{mostRadios};
+ghost use Rattle.site.specs.Map.{Site};
+ghost use Rattle.tokens.specs.Rules.{start};
+ghost use Rattle.tokens.specs.Run.{runFrom};
+ghost use Rattle.outcome.specs.Leaves.{kindNumber};
+ghost use Rattle.machine.specs.View.{Shows, enteredOf, stateOf};
+ghost use Rattle.machine.specs.Step.{Ready};
+ghost use Rattle.running.specs.Run.{written, Writable, isPdt, enters, noted, Leaves, LeavesFrom, Roomy, Runs};
+use machine::Machine;
+use machine::Stage;
+use machine::Task;
+use tokens::Answer;
+use tokens::Kind;
+use tokens::Message;
+
+// The log takes so many bytes a message.
+const MESSAGE_BYTES: usize = 4;
+
+// What a run came to: the rounds started, the paths found, and the messages sent.
+pub struct Ran {
+    pub rounds: usize,
+    pub found: usize,
+    pub messages: usize,
+}
+
+// A kind's number in the log.
+fn kind_number(kind: Kind) -> u8
+    ensures { λ r. ⌜ r ≡ kindNumber kind ⌝ }
+{
+    match kind {
+        Kind::Pdt => 1,
+        Kind::PdtB => 2,
+        Kind::Pmt => 3,
+        Kind::Done => 4,
+    }
+}
+
+// Message number `at` of the log: its kind, its round and its two ends.
+fn put(log: &mut [u8], at: usize, message: Message, round: usize)
+    requires { ⌜ Writable (now log) at message round ⌝ }
+    ensures { λ r. ⌜ now (log .exit) ≡ written (now (log .entry)) (4 * at) message round ⌝ }
+{
+    let kind = message.kind;
+    let place = MESSAGE_BYTES * at;
+    log[place] = kind_number(kind);
+    log[place + 1] = round as u8;
+    log[place + 2] = message.from as u8;
+    log[place + 3] = message.to as u8;
+}
+
+// No radio in any row.
+pub fn no_radios() -> [u64; 64]
+    ensures { λ r. ⌜ r ≡ replicate 64 0 ⌝ }
+{
+    [0; 64]
+}
+
+// A zero for each half.
+pub fn no_bytes() -> [u8; 128]
+    ensures { λ r. ⌜ r ≡ replicate 128 0 ⌝ }
+{
+    [0; 128]
+}
+
+// ---- the halves entered in a round
+
+// Is it a PDT?
+fn is_pdt(kind: Kind) -> bool
+    ensures { λ r. ⌜ r ≡ isPdt kind ⌝ }
+{
+    match kind {
+        Kind::Pdt => true,
+        Kind::PdtB => false,
+        Kind::Pmt => false,
+        Kind::Done => false,
+    }
+}
+
+// A PDT enters the half that gets it.
+fn hear(entered: &mut [u8; 128], message: Message)
+    requires { ⌜ message .to < 2 * mostRadios ⌝ }
+    ensures { λ r. ⌜ enteredOf (now (entered .exit)) ≡ (λ h. enters (message .kind) (message .to) h || enteredOf (now (entered .entry)) h) ⌝ }
+{
+    let kind = message.kind;
+    if is_pdt(kind) {
+        halves::enter(entered, message.to);
+    }
+}
+
+// The halves entered once a message is delivered, from those before it and the rounds before and after. The machine keeps
+// its own bytes for them, but promises nothing of those once the run is over.
+fn note(entered: &mut [u8; 128], message: Message, source: usize, last: usize, round: usize)
+    requires { ⌜ (message .to < 2 * mostRadios) × (source < 2 * mostRadios) ⌝ }
+    ensures { λ r. ⌜ enteredOf (now (entered .exit)) ≡ noted source message (not (eqb round last)) (enteredOf (now (entered .entry))) ⌝ }
+{
+    if round == last {
+        hear(entered, message);
+        return;
+    }
+    halves::enter_only(entered, source);
+    hear(entered, message);
+}
+
+// ---- the run
+
+// The run from where the machine stands: each message goes into the log with the round that it leaves the machine in. The
+// machine's own bytes for the halves entered are `own`.
+fn run_on(
+    task: Task,
+    begin: Machine,
+    budget: usize,
+    links: &[u64; 64],
+    marks: &mut [u64; 64],
+    into: &mut [u64; 64],
+    own: &mut [u8; 128],
+    halves: &mut [u8; 128],
+    places: &mut [u8; 128],
+    entered: &mut [u8; 128],
+    log: &mut [u8],
+) -> Ran
+    requires { ⌜ Ready task begin (now links) (now marks) (now into) (now own) (now halves) (now places) ⌝ }
+    requires { ⌜ Roomy task budget (now log) ⌝ }
+    requires { ⌜ enteredOf (now entered) ≡ enteredOf (now own) ⌝ }
+    ensures { λ r. ⌜ LeavesFrom task budget (now (links .entry)) (stateOf begin (now (marks .entry)) (now (own .entry)) (now (halves .entry)) (now (places .entry))) r (now (entered .exit)) (now (log .entry)) (now (log .exit)) ⌝ }
+{
+    let source = 2 * task.s + 1;
+    let mut machine = begin;
+    let mut sent = 0;
+    while sent < budget {
+        let stepped = machine::step(task, machine, links, marks, into, own, halves, places);
+        let answer = stepped.answer;
+        let Answer::Sent(message) = answer else {
+            break;
+        };
+        let next = stepped.machine;
+        put(log, sent, message, next.round);
+        note(entered, message, source, machine.round, next.round);
+        machine = next;
+        sent += 1;
+    }
+    Ran {
+        rounds: machine.round,
+        found: machine.found,
+        messages: sent,
+    }
+}
+
+// The whole run of the token rules, its messages at the front of the log and the rest of the log as it was. The halves
+// entered in its last round are left in the bytes lent for them, whatever these held.
+pub fn run(
+    task: Task,
+    budget: usize,
+    links: &[u64; 64],
+    entered: &mut [u8; 128],
+    log: &mut [u8],
+) -> Ran
+    requires { ⌜ Runs task budget (now links) (now log) ⌝ }
+    ensures { λ r. ⌜ ((site : Site) → Shows site task (now (links .entry)) → Leaves (runFrom site (task .k) budget (start site)) r (now (entered .exit)) (now (log .entry)) (now (log .exit))) ⌝ }
+{
+    let mut marks = no_radios();
+    let mut into = no_radios();
+    let mut halves = no_bytes();
+    let mut places = no_bytes();
+    let mut own = no_bytes();
+    let source = 2 * task.s + 1;
+    halves::enter_only(&mut own, source);
+    halves::enter_only(entered, source);
+    halves::push(&mut halves, &mut places, 0, source);
+    let begin = Machine {
+        stage: Stage::Searching,
+        depth: 1,
+        round: 1,
+        found: 0,
+    };
+    run_on(
+        task,
+        begin,
+        budget,
+        links,
+        &mut marks,
+        &mut into,
+        &mut own,
+        &mut halves,
+        &mut places,
+        entered,
+        log,
+    )
+}

@@ -1,0 +1,5 @@
+pub mod Writing
+pub mod Numbers
+pub mod Lines
+pub mod Paths
+pub mod Room

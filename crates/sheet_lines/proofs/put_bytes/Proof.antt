@@ -1,0 +1,65 @@
+-- `sheet_lines::put_bytes` meets its contract. The loop's invariant: what is left to be written are the bytes not passed. Assumes nothing.
+use Prim.Native.Nat.{_+_, _-_, _≤_}
+use native.Mathlib.Omega.{arith}
+use lib.ListN.{length, getD, drop, length-drop, drop-of-length-le}
+use Rattle.sheet_lines.proofs.Writing.{Partly, partly-none, partly-room, partly-more, partly-all, partly-kept, stored, left-opened}
+use Rattle.sheet_lines.proofs.put_bytes.Statement.{statement}
+use Rattle.sheet_lines.proofs.put_bytes.Tie as tie
+
+abbrev Inv-loop : tie.InvT-loop
+Inv-loop out₀ at bytes size next₀ i₀ out next i = (i ≤ length bytes) × Partly out₀ out at bytes (drop i bytes) next
+
+abbrev μ-loop : tie.MeasureT-loop
+μ-loop out₀ at bytes size next₀ i₀ out next i = length bytes - i
+
+-- a byte that is left has room
+room : (c : tie.In-loop Inv-loop μ-loop) → c .before .loop .next + 1 ≤ length (c .before .loop .out)
+room c =
+    let l = c .before .loop in
+    omega (arith, partly-room (l .inv .1) (c .before .before .pre), length-drop (l .i) (c .before .before .args .bytes .now))
+
+loop-holds : tie.Need-loop-holds Inv-loop μ-loop
+loop-holds c = (omega arith, partly-none (c .args .out .now) (c .args .at) (c .args .bytes .now) (omega arith))
+
+shared-slice-read-out : tie.Need-shared-slice-read-out Inv-loop μ-loop
+shared-slice-read-out c = omega arith
+
+slice-write-out : tie.Need-slice-write-out Inv-loop μ-loop
+slice-write-out c = omega (arith, room (c .before))
+
+add-next : tie.Need-add-next Inv-loop μ-loop
+add-next c = omega (arith, room (c .before), partly-kept (c .before .before .loop .inv .1))
+
+add-i : tie.Need-add-i Inv-loop μ-loop
+add-i c = omega arith
+
+loop-less : tie.Need-loop-less Inv-loop μ-loop
+loop-less c = omega arith
+
+loop-again : tie.Need-loop-again Inv-loop μ-loop
+loop-again c =
+    let l = c .before .before .loop in
+    let bytes = c .before .before .before .args .bytes .now in
+    (omega arith, partly-more (drop (l .i + 1) bytes) (l .inv .1) (left-opened 0 bytes (l .i) (omega arith)) (stored (l .out) (l .next) (getD bytes (l .i) 0) (omega (arith, room (c .before)))))
+
+same-length : tie.Need-same-length Inv-loop μ-loop
+same-length c = partly-kept (c .before .loop .inv .1)
+
+returns : tie.Need-returns Inv-loop μ-loop
+returns c = partly-all (c .before .loop .inv .1) (drop-of-length-le (c .before .before .args .bytes .now) {i = c .before .loop .i} (omega arith))
+
+pub put-bytes-spec : {M : Type 1} → statement M
+put-bytes-spec =
+    tie.close
+    (tie.spec
+    Inv-loop
+    μ-loop
+    loop-holds
+    shared-slice-read-out
+    slice-write-out
+    add-next
+    add-i
+    loop-less
+    loop-again
+    same-length
+    returns)

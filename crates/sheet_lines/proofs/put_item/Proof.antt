@@ -1,0 +1,55 @@
+-- `sheet_lines::put_item` meets its contract. Assumes nothing.
+use mathlib.Core.Path.{_≡_}
+use mathlib.Core.List.{[], _∷_}
+use Prim.Native.Nat.{_+_}
+use native.Mathlib.Omega.{arith}
+use borrow.Author.Needs.{needs}
+use lib.ListN.{length}
+use Rattle.captures.specs.Text.{decimal}
+use Rattle.sheet_lines.specs.Lines.{itemWord, cutLines}
+use Rattle.sheet_lines.proofs.Writing.{join}
+use Rattle.sheet_lines.proofs.Lines.{item-size}
+use Rattle.sheet_lines.proofs.put_item.Statement.{statement}
+use Rattle.sheet_lines.proofs.put_item.Tie as tie
+
+size : (c : tie.Start) → length (cutLines (c .args .number) (c .args .item ∷ [])) ≡ 6 + length (decimal (c .args .number)) + length (itemWord (c .args .item))
+size c = item-size (c .args .number) (c .args .item)
+
+slice-aggregate-put-bytes : tie.Need-slice-aggregate-put-bytes
+slice-aggregate-put-bytes c = search needs
+
+put-bytes-requires : tie.Need-put-bytes-requires
+put-bytes-requires c κs = omega (arith, size (c .before .before .before))
+
+put-field-number-requires : tie.Need-put-field-number-requires
+put-field-number-requires c κs = omega (arith, size (c .before .before .before .before .before .before .before))
+
+put-field-item-requires : tie.Need-put-field-item-requires
+put-field-item-requires c κs = omega (arith, size (c .before .before .before .before .before .before .before .before .before .before .before))
+
+put-byte-requires : tie.Need-put-byte-requires
+put-byte-requires c κs = omega (arith, size (c .before .before .before .before .before .before .before .before .before .before .before .before .before .before .before))
+
+same-length : tie.Need-same-length
+same-length c = omega arith
+
+returns : tie.Need-returns
+unfolding cutLines
+returns c =
+    let line = c .before .before in
+    let item = line .before .before .before .before in
+    let number = item .before .before .before .before in
+    let word = number .before .before .before .before in
+    join (word .put-bytes .ensures) (join (number .put-field-number .ensures) (join (item .put-field-item .ensures) (line .put-byte .ensures)))
+
+pub put-item-spec : {M : Type 1} → statement M
+put-item-spec =
+    tie.close
+    (tie.spec
+    slice-aggregate-put-bytes
+    put-bytes-requires
+    put-field-number-requires
+    put-field-item-requires
+    put-byte-requires
+    same-length
+    returns)

@@ -1,0 +1,3 @@
+pub mod Tails
+pub mod Together
+pub mod Kept

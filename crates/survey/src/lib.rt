@@ -1,0 +1,148 @@
+// The survey: one public call that finds the disjoint paths of a site, or says why not, and leaves nothing of what was there.
+ghost use mathlib.Core.Path.{_≡_};
+ghost use mathlib.Core.Bool.{cond};
+ghost use mathlib.Core.List.{List, []};
+ghost use Prim.Native.Nat.{ℕ};
+ghost use lib.ListN.{length, replicate};
+ghost use lib.Dec.{ltb};
+ghost use Rattle.site.specs.Map.{Site};
+ghost use Rattle.site.specs.Refusals.{callOf, number, placeOf};
+ghost use Rattle.tokens.specs.Run.{cutOf};
+ghost use Rattle.outcome.specs.Leaves.{zerosAfter};
+ghost use Rattle.machine.specs.View.{enteredOf};
+ghost use Rattle.lists.specs.Cut.{Ends, Holds, Cuttable};
+ghost use Rattle.demands.specs.Promise.{Promise};
+ghost use Rattle.survey.specs.Parts.{Given, Left};
+use machine::Task;
+use outcome::Outcome;
+use site::Verdict;
+
+// The log takes so many bytes a message.
+const MESSAGE_BYTES: usize = 4;
+
+// Document 01's number of a verdict.
+fn number_of(verdict: Verdict) -> usize
+    ensures { λ r. ⌜ r ≡ number verdict ⌝ }
+{
+    match verdict {
+        Verdict::Accepted => 0,
+        Verdict::Radios => 1,
+        Verdict::TableLength => 2,
+        Verdict::Cell(_) => 3,
+        Verdict::Links => 4,
+        Verdict::Ends => 5,
+        Verdict::Wanted => 6,
+        Verdict::Log => 7,
+        Verdict::Lists => 8,
+    }
+}
+
+// Its place: only a bad cell has one.
+fn place_of(verdict: Verdict) -> usize
+    ensures { λ r. ⌜ r ≡ placeOf verdict ⌝ }
+{
+    match verdict {
+        Verdict::Accepted => 0,
+        Verdict::Radios => 0,
+        Verdict::TableLength => 0,
+        Verdict::Cell(place) => place,
+        Verdict::Links => 0,
+        Verdict::Ends => 0,
+        Verdict::Wanted => 0,
+        Verdict::Log => 0,
+        Verdict::Lists => 0,
+    }
+}
+
+// A refused call leaves zeros in every buffer lent for results, whatever they held.
+fn refused(verdict: Verdict, log: &mut [u8], paths: &mut [u8], cut: &mut [u8]) -> Outcome
+    ensures { λ r. ⌜ r ≡ record { refusal = number verdict; place = placeOf verdict; paths = 0; rounds = 0; messages = 0 } ⌝ }
+    ensures { λ r. ⌜ now (log .exit) ≡ replicate (length (now (log .entry))) 0 ⌝ }
+    ensures { λ r. ⌜ now (paths .exit) ≡ replicate (length (now (paths .entry))) 0 ⌝ }
+    ensures { λ r. ⌜ now (cut .exit) ≡ replicate (length (now (cut .entry))) 0 ⌝ }
+{
+    lists::clear_from(log, 0);
+    lists::clear_from(paths, 0);
+    lists::clear_from(cut, 0);
+    Outcome {
+        refusal: number_of(verdict),
+        place: place_of(verdict),
+        paths: 0,
+        rounds: 0,
+        messages: 0,
+    }
+}
+
+// The cut of a run that found `count` paths: one item for each where a path is lacking, none in a full run; then zeros.
+fn leave_cut(task: Task, paths: &[u8], count: usize, entered: &[u8; 128], cut: &mut [u8])
+    requires { ⌜ Cuttable (now paths) count (now cut) ⌝ }
+    ensures { λ r. ⌜ ((site : Site) (ps : List (List ℕ)) → Ends (task .s) (task .t) site → Holds (now (paths .entry)) count ps → now (cut .exit) ≡ zerosAfter (length (now (cut .entry))) (cond (ltb count (task .k)) (cutOf site (enteredOf (now (entered .entry))) ps) [])) ⌝ }
+{
+    if count < task.k {
+        lists::write_cut(paths, count, entered, task.s, task.t, cut);
+        lists::clear_from(cut, count);
+        return;
+    }
+    lists::clear_from(cut, 0);
+}
+
+// An accepted call: the run fills the log, the paths are those that its DONE messages tell, and zeros stand past all that is used.
+fn accepted(
+    task: Task,
+    links: &[u64; 64],
+    log: &mut [u8],
+    paths: &mut [u8],
+    cut: &mut [u8],
+) -> Outcome
+    requires { ⌜ Given task (now links) (now log) (now paths) (now cut) ⌝ }
+    ensures { λ r. ⌜ ((given : Given task (now (links .entry)) (now (log .entry)) (now (paths .entry)) (now (cut .entry))) → Left (given .call) r (now (log .exit)) (now (paths .exit)) (now (cut .exit))) ⌝ }
+{
+    let mut entered = running::no_bytes();
+    let ran = running::run(task, log.len() / MESSAGE_BYTES, links, &mut entered, log);
+    let listed = paths::write_paths(log, ran.messages, task.s, paths);
+    leave_cut(task, paths, listed.paths, &entered, cut);
+    lists::clear_from(log, MESSAGE_BYTES * ran.messages);
+    lists::clear_from(paths, listed.used);
+    Outcome {
+        refusal: 0,
+        place: 0,
+        paths: listed.paths,
+        rounds: ran.rounds,
+        messages: ran.messages,
+    }
+}
+
+// The survey of a map of n radios, from s to t, for k paths. The table is only read. It accepts any numbers and any
+// lengths: what is not in order is refused by number, in the order of document 01. The log, the path list and the cut list
+// are left with the outcome and zeros after it; a refused call leaves zeros throughout and all counts 0.
+#[no_mangle]
+pub extern "C" fn fog_survey(
+    n: usize,
+    table: &[u8],
+    s: usize,
+    t: usize,
+    k: usize,
+    log: &mut [u8],
+    paths: &mut [u8],
+    cut: &mut [u8],
+) -> Outcome
+    ensures { λ r. ⌜ Promise (callOf n (now (table .entry)) s t k (length (now (log .entry))) (length (now (paths .entry))) (length (now (cut .entry)))) r (now (log .exit)) (now (paths .exit)) (now (cut .exit)) ⌝ }
+{
+    let mut links = running::no_radios();
+    let verdict = checks::judge(
+        n,
+        table,
+        s,
+        t,
+        k,
+        log.len(),
+        paths.len(),
+        cut.len(),
+        &mut links,
+    );
+    if number_of(verdict) != 0 {
+        return refused(verdict, log, paths, cut);
+    }
+    let task = Task { n, s, t, k };
+    accepted(task, &links, log, paths, cut)
+}
