@@ -1,10 +1,10 @@
 -- A capture: its lines, and the refusals of its text: 10, 9, 1 and 11, with their places.
 use mathlib.Core.Bool.{Bool, true, false, not, _&&_, _||_, cond}
 use mathlib.Core.List.{List, [], _∷_}
-use Prim.Native.Nat.{ℕ, zero, suc, _+_, _*_}
+use Prim.Native.Nat.{ℕ, suc, _+_, _*_}
 use lib.Dec.{eqb, ltb}
 use lib.ListN.{length, getD, set, replicate}
-use Rattle.captures.specs.Words.{tab, lineFeed, net, link}
+use Rattle.captures.specs.Words.{tab, net, link}
 use Rattle.captures.specs.Text.{pieces, same, value, isNumber}
 use Rattle.captures.specs.declared.Head.{Head}
 use Rattle.captures.specs.declared.Head.the-variants.{Net, NoNet}

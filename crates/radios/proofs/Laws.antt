@@ -53,18 +53,6 @@ pub member-high : (k i x : ℕ) → x < 2 ^ k → k ≤ i → member i x ≡ fal
 unfolding member
 member-high k i x h l = ap (λ (n : ℕ). eqb (n % 2) 1) (div-eq-of-lt (lt-of-lt-of-le h (pow-mono l)))
 
--- two numbers of k digits with the same members are equal
-pub same-members : (k x y : ℕ) → x < 2 ^ k → y < 2 ^ k → ((j : ℕ) → j < k → member j x ≡ member j y) → x ≡ y
-same-members zero x y hx hy f = lt-one hx ∙ sym (lt-one hy)
-same-members (suc k) x y hx hy f =
-    let low : x % 2 ≡ y % 2 =
-    by-two-digits (λ d e. eqb d 1 ≡ eqb e 1 → d ≡ e) (λ q. refl) (λ q. absurd (false≢true q)) (λ q. absurd (true≢false q)) (λ q. refl) x y
-    (sym (member-zero x) ∙ f zero (omega arith) ∙ member-zero y) in
-    let high : x / 2 ≡ y / 2 =
-    same-members k (x / 2) (y / 2) (omega (arith, pow-suc 2 k)) (omega (arith, pow-suc 2 k))
-    (λ j h. sym (member-suc j x) ∙ f (suc j) (omega arith) ∙ member-suc j y) in
-    omega arith
-
 -- ---- and, or
 
 -- an operation that works digit by digit, by f, works member by member, by g

@@ -4,7 +4,7 @@ use mathlib.Core.List.{List}
 use Prim.Native.Nat.{ℕ}
 use native.Mathlib.Omega.{arith}
 use lib.ListN.{length, replicate}
-use Rattle.site.specs.Refusals.{Call, callOf, verdict, number, placeOf}
+use Rattle.site.specs.Refusals.{Call, callOf, number, placeOf}
 use Rattle.site.specs.declared.Verdict.{Verdict}
 use Rattle.site.specs.declared.Verdict.the-variants.{Accepted, Radios, TableLength, Cell, Links, Ends, Wanted, Log, Lists}
 use Rattle.outcome.specs.declared.Outcome.{Outcome}
@@ -14,7 +14,6 @@ use Rattle.demands.specs.Demand1.{NothingLeft}
 use Rattle.demands.specs.Promise.{Promise}
 use Rattle.demands.proofs.First.{demand-1}
 use Rattle.demands.proofs.Demands.{demand-2, demand-3}
-use Rattle.machine.specs.declared.Task.{Task}
 use Rattle.survey.specs.Parts.{Given, Left}
 
 -- the only verdict without a number is the one that accepts

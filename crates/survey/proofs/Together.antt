@@ -2,12 +2,12 @@
 use mathlib.Core.Path.{_≡_, refl, sym, ap, _∙_}
 use mathlib.Core.Bool.{cond}
 use mathlib.Core.List.{List, [], _++_}
-use Prim.Native.Nat.{ℕ, _+_, _-_, _*_, _/_, _≤_, _<_}
+use Prim.Native.Nat.{ℕ, _-_, _*_, _/_, _≤_, _<_}
 use native.Mathlib.Omega.{arith}
 use lib.Dec.{ltb}
 use lib.ListN.{length, take, drop, replicate, length-append}
 use lib.Seq.{take-at}
-use Rattle.basics.specs.Lists.{All, among}
+use Rattle.basics.specs.Lists.{All}
 use Rattle.basics.proofs.Lists.{all-follow, all-from}
 use Rattle.site.specs.Limits.{mostRadios}
 use Rattle.site.specs.Map.{Site}
@@ -15,13 +15,12 @@ use Rattle.site.specs.Paths.{Path}
 use Rattle.site.specs.Refusals.{Call, mostMessages, verdict, number}
 use Rattle.site.proofs.Valid.{Valid, Room, accepted-valid, accepted-room}
 use Rattle.tokens.specs.Rules.{start}
-use Rattle.tokens.specs.Run.{Entry, Run, notesOf, runFrom, pathsOf, cutOf}
-use Rattle.outcome.specs.declared.Outcome.{Outcome}
-use Rattle.outcome.specs.Leaves.{runOf, pathsFound, logBytes, pathBytes, zerosAfter, outcome, logLeft, pathsLeft, cutLeft}
+use Rattle.tokens.specs.Run.{notesOf, runFrom, cutOf}
+use Rattle.outcome.specs.Leaves.{runOf, pathsFound, logBytes, pathBytes, zerosAfter, outcome}
 use Rattle.demands.proofs.Demands.{log-bytes, any-budget, at-most, demand-2, demand-3, numbers-left, log-left, paths-left, cut-left, paths-of-the-map}
 use Rattle.routes.proofs.Duality.{path-below, path-few}
 use Rattle.machine.specs.declared.Task.{Task}
-use Rattle.machine.specs.View.{Shows, enteredOf}
+use Rattle.machine.specs.View.{enteredOf}
 use Rattle.machine.specs.Step.{Fits}
 use Rattle.running.specs.declared.Ran.{Ran}
 use Rattle.running.specs.Run.{Leaves, Runs}
