@@ -11,35 +11,37 @@ use lib.ListN.{getD}
 use borrow.Author.Tests.{eq-eqb, ne-eqb, lt-ltb, le-ltb}
 use Rattle.basics.specs.Counting.{First, firstFrom}
 use Rattle.basics.proofs.Counting.{first-from}
-use Rattle.radios.specs.Member.{member}
-use Rattle.radios.proofs.Laws.{member-empty}
 use Rattle.site.specs.Map.{linked}
 use Rattle.site.specs.Refusals.{bad, badAt, badCell, firstBad, finding}
 use Rattle.site.proofs.Exactly.{sound-table}
 use Rattle.site.proofs.Formula.{Even}
 use Rattle.site.proofs.Valid.{even-links}
 use Rattle.site.specs.declared.Finding.the-variants.{Sound, Bad}
-use Rattle.checks.specs.Checked.{Filled, samePair}
+use Rattle.checks.proofs.Rows.{samePair}
 use Rattle.checks.proofs.Cells.{good-mirror, linked-good, linked-mirror, linked-outside, at-place, earlier}
 
 -- where a pair of radios stands in the scan, which meets it at its lower radio's row
 abbrev pub turn : ℕ → ℕ → ℕ
 turn u v = 64 * min u v + max u v
 
--- what is known before the turn `here`: the cells before it are good, the rows hold their links, and nothing else
-pub record Scanned (table : List ℕ) (n : ℕ) (rows : List ℕ) (here : ℕ) : Type 0 where
+-- what is known before the turn `here`: the cells before it are good, the rows hold their links (`held` says who is whose neighbour in them), and nothing else
+pub record Scanned (table : List ℕ) (n : ℕ) (held : ℕ → ℕ → Bool) (here : ℕ) : Type 0 where
   pub sound : (a b : ℕ) → a ≤ b → b < n → 64 * a + b < here → badAt table n a b ≡ false
-  pub seen : (u v : ℕ) → turn u v < here → member v (getD rows u 0) ≡ linked table n u v
-  pub unseen : (u v : ℕ) → here ≤ turn u v → member v (getD rows u 0) ≡ false
+  pub seen : (u v : ℕ) → turn u v < here → held u v ≡ linked table n u v
+  pub unseen : (u v : ℕ) → here ≤ turn u v → held u v ≡ false
 
 -- before the first turn
-pub scanned-none : (table : List ℕ) (n : ℕ) (rows : List ℕ) → ((u : ℕ) → getD rows u 0 ≡ 0) → Scanned table n rows (64 * 0 + 0)
-scanned-none table n rows empty =
+pub scanned-none : (table : List ℕ) (n : ℕ) (held : ℕ → ℕ → Bool) → ((u v : ℕ) → held u v ≡ false) → Scanned table n held (64 * 0 + 0)
+scanned-none table n held empty =
     record {
       sound = λ a b p q l. absurd (omega arith);
       seen = λ u v l. absurd (omega arith);
-      unseen = λ u v l. ap (member v) (empty u) ∙ member-empty v;
+      unseen = λ u v l. empty u v;
     }
+
+-- rows that hold the same
+pub scanned-same : (table : List ℕ) (n : ℕ) (held held′ : ℕ → ℕ → Bool) (here : ℕ) → ((u v : ℕ) → held′ u v ≡ held u v) → Scanned table n held here → Scanned table n held′ here
+scanned-same table n held held′ here same s = record { sound = s .sound; seen = λ u v l. same u v ∙ s .seen u v l; unseen = λ u v l. same u v ∙ s .unseen u v l }
 
 -- u, v is the pair i, j, or that pair the other way round, or another one
 data Which (i j u v : ℕ) : Type 0 where
@@ -61,20 +63,20 @@ which i j u v = pick (ℕ-discrete u i) (ℕ-discrete v j) (ℕ-discrete u j) (�
     pick (yes p) (no q) r s = second r s (simp (ne-eqb v j q, and-false)) (λ x y. q y)
 
 -- one turn more
-module _ (table : List ℕ) (n i j : ℕ) (rows rows′ : List ℕ) (small : n ≤ 64) (from : i ≤ j) (within : j < n) (s : Scanned table n rows (64 * i + j))
+module _ (table : List ℕ) (n i j : ℕ) (held held′ : ℕ → ℕ → Bool) (small : n ≤ 64) (from : i ≤ j) (within : j < n) (s : Scanned table n held (64 * i + j))
     (fine : badAt table n i j ≡ false) (at : ℕ) (place : at ≡ i * n + j)
-    (noted : (u v : ℕ) → member v (getD rows′ u 0) ≡ ((eqb (getD table at 0) 1 && samePair i j u v) || member v (getD rows u 0))) where
-  is-same : (u v : ℕ) → turn u v ≡ 64 * i + j → samePair i j u v ≡ true → member v (getD rows′ u 0) ≡ eqb (getD table (i * n + j) 0) 1
+    (noted : (u v : ℕ) → held′ u v ≡ ((eqb (getD table at 0) 1 && samePair i j u v) || held u v)) where
+  is-same : (u v : ℕ) → turn u v ≡ 64 * i + j → samePair i j u v ≡ true → held′ u v ≡ eqb (getD table (i * n + j) 0) 1
   is-same u v here p = noted u v ∙ simp (p, place, s .unseen u v (omega arith)) (go (eqb (getD table (i * n + j) 0) 1))
     where
       go : (b : Bool) → ((b && true) || false) ≡ b
       go true = refl
       go false = refl
 
-  is-other : (u v : ℕ) → samePair i j u v ≡ false → member v (getD rows′ u 0) ≡ member v (getD rows u 0)
+  is-other : (u v : ℕ) → samePair i j u v ≡ false → held′ u v ≡ held u v
   is-other u v p = noted u v ∙ simp (p, and-false)
 
-  seen-more : (u v : ℕ) → turn u v < 64 * i + (j + 1) → Which i j u v → Dec (turn u v < 64 * i + j) → member v (getD rows′ u 0) ≡ linked table n u v
+  seen-more : (u v : ℕ) → turn u v < 64 * i + (j + 1) → Which i j u v → Dec (turn u v < 64 * i + j) → held′ u v ≡ linked table n u v
   seen-more u v l (this p q) d =
       is-same u v (omega arith) (simp (eq-eqb u i p, eq-eqb v j q))
       ∙ sym (ap₂ (linked table n) p q ∙ linked-good table n i j (omega arith) within fine)
@@ -89,7 +91,7 @@ module _ (table : List ℕ) (n i j : ℕ) (rows rows′ : List ℕ) (small : n �
       apart a b (yes r) = q (omega arith) (omega arith)
       apart a b (no r) = p (omega arith) (omega arith)
 
-  unseen-more : (u v : ℕ) → 64 * i + (j + 1) ≤ turn u v → Which i j u v → member v (getD rows′ u 0) ≡ false
+  unseen-more : (u v : ℕ) → 64 * i + (j + 1) ≤ turn u v → Which i j u v → held′ u v ≡ false
   unseen-more u v l (this p q) = absurd (omega arith)
   unseen-more u v l (turned p q) = absurd (omega arith)
   unseen-more u v l (another e p q) = is-other u v e ∙ s .unseen u v (omega arith)
@@ -101,7 +103,7 @@ module _ (table : List ℕ) (n i j : ℕ) (rows rows′ : List ℕ) (small : n �
       let y : b ≡ j = omega arith in
       ap₂ (badAt table n) x y ∙ fine
 
-  pub scanned-more : Scanned table n rows′ (64 * i + (j + 1))
+  pub scanned-more : Scanned table n held′ (64 * i + (j + 1))
   scanned-more =
       record {
         sound = λ a b p q l. sound-more a b p q l (decLt (64 * a + b) (64 * i + j));
@@ -110,24 +112,24 @@ module _ (table : List ℕ) (n i j : ℕ) (rows rows′ : List ℕ) (small : n �
       }
 
 -- a row is through: the next one starts at its diagonal
-pub next-row : (table : List ℕ) (n i j : ℕ) (rows : List ℕ) → n ≤ 64 → j ≤ n → n ≤ j → Scanned table n rows (64 * i + j) → Scanned table n rows (64 * (i + 1) + (i + 1))
-next-row table n i j rows small low high s =
+pub next-row : (table : List ℕ) (n i j : ℕ) (held : ℕ → ℕ → Bool) → n ≤ 64 → j ≤ n → n ≤ j → Scanned table n held (64 * i + j) → Scanned table n held (64 * (i + 1) + (i + 1))
+next-row table n i j held small low high s =
     record {
       sound = λ a b p q l. s .sound a b p q (omega arith);
       seen = λ u v l. pick u v l (decLt (turn u v) (64 * i + j));
       unseen = λ u v l. s .unseen u v (omega arith);
     }
   where
-    pick : (u v : ℕ) → turn u v < 64 * (i + 1) + (i + 1) → Dec (turn u v < 64 * i + j) → member v (getD rows u 0) ≡ linked table n u v
+    pick : (u v : ℕ) → turn u v < 64 * (i + 1) + (i + 1) → Dec (turn u v < 64 * i + j) → held u v ≡ linked table n u v
     pick u v l (yes d) = s .seen u v d
     pick u v l (no d) = s .unseen u v (omega arith) ∙ sym (linked-outside table n u v (λ p q. omega arith))
 
 -- ---- what the scan comes to
 
 -- below the diagonal too: a cell is as good as its mirror cell, which came first
-sound-below : (table : List ℕ) (n : ℕ) (rows : List ℕ) (here : ℕ) → Scanned table n rows here
+sound-below : (table : List ℕ) (n : ℕ) (held : ℕ → ℕ → Bool) (here : ℕ) → Scanned table n held here
     → (a b : ℕ) → a < n → b < n → 64 * a + b < here → badAt table n a b ≡ false
-sound-below table n rows here s a b p q l = pick (decLt b a)
+sound-below table n held here s a b p q l = pick (decLt b a)
   where
     pick : Dec (b < a) → badAt table n a b ≡ false
     pick (yes d) = good-mirror table n b a (s .sound b a (omega arith) p (omega arith))
@@ -138,17 +140,17 @@ some-row zero place l = absurd (omega arith)
 some-row (suc n) place l = omega arith
 
 -- so every place before the turn is good
-sound-places : (table : List ℕ) (n : ℕ) (rows : List ℕ) (here end : ℕ) → end ≤ n * n → Scanned table n rows here
+sound-places : (table : List ℕ) (n : ℕ) (held : ℕ → ℕ → Bool) (here end : ℕ) → end ≤ n * n → Scanned table n held here
     → ((a b : ℕ) → a < n → b < n → a * n + b < end → 64 * a + b < here)
     → (place : ℕ) → place < end → badCell table n place ≡ false
 unfolding badCell
-sound-places table n rows here end most s order place l =
+sound-places table n held here end most s order place l =
     let pos : 0 < n = some-row n place (omega arith) in
     let a : ℕ = place / n in
     let b : ℕ = place % n in
     let in-row : a < n = div-lt-iff-lt-mul pos .1 (omega arith) in
     let in-column : b < n = mod-lt place pos in
-    sound-below table n rows here s a b in-row in-column (order a b in-row in-column (omega (arith, div-add-mod' place n)))
+    sound-below table n held here s a b in-row in-column (order a b in-row in-column (omega (arith, div-add-mod' place n)))
 
 -- the first that passes is one number
 first-is : (test : ℕ → Bool) (limit r : ℕ) → First test 0 limit r → firstFrom test 0 limit ≡ r
@@ -168,42 +170,42 @@ unfolding badAt
 tested table n i j at mirror b e f said = rw (said, e, f) refl
 
 -- the scan stopped at a bad cell: it is the first
-pub found-bad : (table : List ℕ) (n i j : ℕ) (rows : List ℕ) → n ≤ 64 → i ≤ j → j < n → i * n + j < n * n → Scanned table n rows (64 * i + j)
+pub found-bad : (table : List ℕ) (n i j : ℕ) (held : ℕ → ℕ → Bool) → n ≤ 64 → i ≤ j → j < n → i * n + j < n * n → Scanned table n held (64 * i + j)
     → badAt table n i j ≡ true → finding table n ≡ Bad (i * n + j)
 unfolding finding firstBad
-found-bad table n i j rows small from within inside s e =
+found-bad table n i j held small from within inside s e =
     let first : firstFrom (badCell table n) 0 (n * n) ≡ i * n + j =
     first-is (badCell table n) (n * n) (i * n + j)
     (record {
       from = zero-le;
       within = omega arith;
       before = λ place p q.
-          sound-places table n rows (64 * i + j) (i * n + j) (omega arith) s (λ a b x y l. earlier n a b i j small y within l) place q;
+          sound-places table n held (64 * i + j) (i * n + j) (omega arith) s (λ a b x y l. earlier n a b i j small y within l) place q;
       found = λ p. at-place table n i j within ∙ e;
     })
     in
     rw (first, lt-ltb (i * n + j) (n * n) inside) refl
 
 -- the scan went through: there is no bad cell
-pub found-none : (table : List ℕ) (n : ℕ) (rows : List ℕ) → Scanned table n rows (64 * n + n) → finding table n ≡ Sound
+pub found-none : (table : List ℕ) (n : ℕ) (held : ℕ → ℕ → Bool) → Scanned table n held (64 * n + n) → finding table n ≡ Sound
 unfolding finding firstBad
-found-none table n rows s =
+found-none table n held s =
     let first : firstFrom (badCell table n) 0 (n * n) ≡ n * n =
     first-is (badCell table n) (n * n) (n * n)
     (record {
       from = zero-le;
       within = omega arith;
-      before = λ place p q. sound-places table n rows (64 * n + n) (n * n) (omega arith) s (λ a b x y l. omega arith) place q;
+      before = λ place p q. sound-places table n held (64 * n + n) (n * n) (omega arith) s (λ a b x y l. omega arith) place q;
       found = λ p. absurd (omega arith);
     })
     in
     rw (first, le-ltb (n * n) (n * n) (omega arith)) refl
 
 -- and the rows are the links
-pub all-filled : (table : List ℕ) (n : ℕ) (rows : List ℕ) → n ≤ 64 → Scanned table n rows (64 * n + n) → Filled table n rows
-all-filled table n rows small s u v = pick (decLt (turn u v) (64 * n + n))
+pub all-filled : (table : List ℕ) (n : ℕ) (held : ℕ → ℕ → Bool) → n ≤ 64 → Scanned table n held (64 * n + n) → (u v : ℕ) → held u v ≡ linked table n u v
+all-filled table n held small s u v = pick (decLt (turn u v) (64 * n + n))
   where
-    pick : Dec (turn u v < 64 * n + n) → member v (getD rows u 0) ≡ linked table n u v
+    pick : Dec (turn u v < 64 * n + n) → held u v ≡ linked table n u v
     pick (yes d) = s .seen u v d
     pick (no d) = s .unseen u v (omega arith) ∙ sym (linked-outside table n u v (λ p q. omega arith))
 

@@ -23,9 +23,9 @@ Filled table n rows = (u v : ℕ) → member v (getD rows u 0) ≡ linked table 
 abbrev pub size : List ℕ → ℕ → ℕ
 size rows u = count (λ v. member v (getD rows u 0)) mostRadios
 
--- u, v is the pair i, j, in this order or the other
-abbrev pub samePair : ℕ → ℕ → ℕ → ℕ → Bool
-samePair i j u v = (eqb u i && eqb v j) || (eqb u j && eqb v i)
+-- is v a neighbour of u in the rows, once radio i and those of a set have become neighbours?
+abbrev pub joined : ℕ → ℕ → List ℕ → ℕ → ℕ → Bool
+joined i set rows u v = (eqb u i && member v set) || ((eqb v i && member u set) || member v (getD rows u 0))
 
 -- what the check of a table finds, and the rows that it leaves where it finds no fault
 pub record Checked (table : List ℕ) (n : ℕ) (rows : List ℕ) (found : Finding) : Type 0 where

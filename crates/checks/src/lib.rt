@@ -8,7 +8,7 @@ ghost use Rattle.basics.specs.Counting.{oneIf, sum};
 ghost use Rattle.radios.specs.Member.{member};
 ghost use Rattle.site.specs.Limits.{mostRadios};
 ghost use Rattle.site.specs.Refusals.{bad, callOf};
-ghost use Rattle.checks.specs.Checked.{size, samePair, Checked, Countable, Judged};
+ghost use Rattle.checks.specs.Checked.{joined, size, Checked, Countable, Judged};
 use site::Finding;
 use site::Verdict;
 
@@ -70,26 +70,32 @@ fn with_where(row: u64, v: usize, cell: u8) -> u64
     radios::with(row, v)
 }
 
-// Radio v joins row u where the cell is 1.
-fn join(rows: &mut [u64; 64], u: usize, v: usize, cell: u8)
-    requires { ⌜ (u < mostRadios) × (v < mostRadios) ⌝ }
-    ensures { λ r. ⌜ ((a b : ℕ) → member b (getD (now (rows .exit)) a 0) ≡ ((eqb cell 1 && (eqb a u && eqb b v)) || member b (getD (now (rows .entry)) a 0))) ⌝ }
+// The radios of a set join row u.
+fn widen(rows: &mut [u64; 64], u: usize, set: u64)
+    requires { ⌜ u < mostRadios ⌝ }
+    ensures { λ r. ⌜ ((a b : ℕ) → member b (getD (now (rows .exit)) a 0) ≡ ((eqb a u && member b set) || member b (getD (now (rows .entry)) a 0))) ⌝ }
 {
     let s = &mut rows[..];
-    s[u] = with_where(s[u], v, cell);
+    s[u] = radios::both(set, s[u]);
 }
 
-// A cell that is 1 makes i and j neighbours: each joins the other's row.
-fn note(rows: &mut [u64; 64], i: usize, j: usize, cell: u8)
-    requires { ⌜ (i < mostRadios) × (j < mostRadios) ⌝ }
-    ensures { λ r. ⌜ ((u v : ℕ) → member v (getD (now (rows .exit)) u 0) ≡ ((eqb cell 1 && samePair i j u v) || member v (getD (now (rows .entry)) u 0))) ⌝ }
+// Radio i and those of a set become neighbours: the set joins row i, and i the row of each of them.
+fn spread(rows: &mut [u64; 64], i: usize, row: u64)
+    requires { ⌜ i < mostRadios ⌝ }
+    ensures { λ r. ⌜ ((u v : ℕ) → member v (getD (now (rows .exit)) u 0) ≡ joined i row (now (rows .entry)) u v) ⌝ }
 {
-    join(rows, i, j, cell);
-    join(rows, j, i, cell);
+    widen(rows, i, row);
+    let alone = radios::with(0, i);
+    let mut v = radios::first_from(row, 0);
+    while v < MOST_RADIOS {
+        widen(rows, v, alone);
+        v = radios::first_from(row, v + 1);
+    }
 }
 
 // The first bad cell in row order, where there is one; where there is none, the rows are the table's links.
-// It is never below the diagonal, where its mirror cell comes first, so a row is scanned from the diagonal on.
+// It is never below the diagonal, where its mirror cell comes first, so a row is scanned from the diagonal on. The
+// neighbours found in a row are gathered in one number before they are stored.
 pub fn check_table(table: &[u8], n: usize, rows: &mut [u64; 64]) -> Finding
     requires { ⌜ (n ≤ mostRadios) × (length (now table) ≡ n * n) ⌝ }
     ensures { λ r. ⌜ Checked (now (table .entry)) n (now (rows .exit)) r ⌝ }
@@ -97,6 +103,7 @@ pub fn check_table(table: &[u8], n: usize, rows: &mut [u64; 64]) -> Finding
     clear(rows);
     let mut found = Finding::Sound;
     'rows: for i in 0..n {
+        let mut row = 0;
         for j in i..n {
             let at = place(n, i, j);
             let mirror = place(n, j, i);
@@ -104,8 +111,9 @@ pub fn check_table(table: &[u8], n: usize, rows: &mut [u64; 64]) -> Finding
                 found = Finding::Bad(at);
                 break 'rows;
             }
-            note(rows, i, j, table[at]);
+            row = with_where(row, j, table[at]);
         }
+        spread(rows, i, row);
     }
     found
 }

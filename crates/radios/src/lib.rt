@@ -30,6 +30,13 @@ pub fn without(x: u64, i: usize) -> u64
     x & !(1u64 << i)
 }
 
+// The radios of x and those of y.
+pub fn both(x: u64, y: u64) -> u64
+    ensures { λ r. ⌜ ((j : ℕ) → member j r ≡ (member j x || member j y)) ⌝ }
+{
+    x | y
+}
+
 // The radios of x that are not in y.
 pub fn and_not(x: u64, y: u64) -> u64
     ensures { λ r. ⌜ ((j : ℕ) → member j r ≡ (member j x && not (member j y))) ⌝ }
