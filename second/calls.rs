@@ -137,7 +137,7 @@ fn write_buffers(lengths: Lengths, log: &[u8], paths: &[u8], cut: &[u8]) -> Stri
 }
 
 /// All bytes past the used ones are 0, so the zeros at the end need not be written.
-fn write_bytes(used: &[u8]) -> String {
+pub fn write_bytes(used: &[u8]) -> String {
     let written = used
         .iter()
         .rposition(|&byte| byte != 0)

@@ -5,6 +5,7 @@
 
 mod calls;
 mod checks;
+mod edges;
 mod halves;
 mod largest;
 mod map;
@@ -20,6 +21,7 @@ use std::process::ExitCode;
 const USAGE: &str = "\
 usage: second sheet              one capture on standard input, its sheet on standard output
        second calls              call lines on standard input, each written with its result
+       second edges              the calls of the program edges, each with its result
        second rows               the rows of document 01 as computed here
        second soak COUNT SEED    COUNT random maps held against every check
        second every RADIOS       all maps of 2 to 6 radios held against every check
@@ -49,6 +51,7 @@ fn answer(words: &[&str]) -> Option<Result<(), String>> {
     match words {
         ["sheet"] => Some(answer_sheet()),
         ["calls"] => Some(answer_calls()),
+        ["edges"] => Some(edges::write_edges().and_then(|lines| print(&lines))),
         ["rows"] => Some(rows::write_rows().and_then(|rows| print(&rows))),
         ["soak", count, seed] => {
             let (count, seed) = (count.parse().ok()?, seed.parse().ok()?);
