@@ -1,6 +1,6 @@
 -- The stages of the step: what each leans on, and what the definition says of it. Assumes nothing.
 use mathlib.Core.Path.{_≡_, refl, sym, ap, ap₂, _∙_, subst}
-use mathlib.Core.Bool.{true, false, _||_}
+use mathlib.Core.Bool.{Bool, true, false, _||_, false≢true}
 use mathlib.Core.List.{List}
 use mathlib.Core.Logic.{_⊎_, inl, inr}
 use Prim.Native.Nat.{ℕ, zero, suc, _+_, _-_, _*_, _≤_, _<_}
@@ -13,17 +13,21 @@ use Rattle.basics.specs.Counting.{count}
 use Rattle.basics.proofs.Counting.{some-counts}
 use Rattle.site.specs.Map.{Site, inHalf, outHalf}
 use Rattle.site.proofs.Steps.{Step, inside, over, step-of, linked-says}
-use Rattle.tokens.specs.Rules.{Marks, Entered, Notes, Waiting, nobody, waits, State, searching, declining, granting, won, sends, message, onlyS, begun, justS, candidate, nextPlace, gets, release, tries, search, reversed, grant, decline, goOn, innerStep}
+use Rattle.tokens.specs.Rules.{Marks, Entered, Notes, Waiting, nobody, waits, State, searching, declining, granting, won, Next, sends, over as ended, message, onlyS, begun, justS, candidate, nextPlace, gets, release, tries, search, reversed, grant, decline, goOn, innerStep}
 use Rattle.tokens.specs.declared.Kind.the-variants.{Pdt, PdtB, Pmt}
+use Rattle.tokens.specs.declared.Message.{Message}
+use Rattle.tokens.specs.declared.Answer.{Answer}
+use Rattle.tokens.specs.declared.Answer.the-variants.{Sent, End}
 use Rattle.marks.specs.Rows.{Half, Held}
 use Rattle.machine.specs.declared.Task.{Task}
-use Rattle.machine.specs.declared.Stage.the-variants.{Searching}
+use Rattle.machine.specs.declared.Stage.{Stage}
+use Rattle.machine.specs.declared.Stage.the-variants.{Searching, Declining, Granting, Won, Carrying}
 use Rattle.machine.specs.declared.Machine.{Machine}
 use Rattle.machine.specs.declared.Stepped.{Stepped}
-use Rattle.machine.specs.View.{Shows, marksOf, Mirrors, enteredOf, waitingOf, notesIn, stateOf}
+use Rattle.machine.specs.View.{Shows, marksOf, Mirrors, enteredOf, waitingOf, notesIn, stateIn, isWon, stateOf, nextOf}
 use Rattle.machine.specs.Sane.{Joined, Asked, depth, Stacked, Under, Sane}
 use Rattle.machine.specs.Step.{Fits, Ready, Told}
-use Rattle.machine.specs.Parts.{Grants, Stands, Answers}
+use Rattle.machine.specs.Parts.{Grants, Stands, Answers, Rounds}
 use Rattle.machine.proofs.Room.{count-most, count-fewer}
 
 -- ---- a half that was asked is a half of the site
@@ -188,6 +192,24 @@ module _ (site : Site) (k : ℕ) (notes : Notes) (halves places : List ℕ) (d t
   unfolding tries
   search-replies p below e = past p ∙ rw e refl
 
+-- ---- the end of a run
+
+abbrev isOver : Next → Bool
+isOver (sends message state) = false
+isOver ended = true
+
+abbrev isEnd : Answer → Bool
+isEnd (Sent message) = false
+isEnd End = true
+
+pub sent-goes-on : (message : Message) → Sent message ≡ End → ⊥
+sent-goes-on message e = false≢true (ap isEnd e)
+
+-- no PDT ends a run
+pub tries-goes-on : (site : Site) (h place : ℕ) (notes : Notes) (rest : Waiting) (answer : Answer) (after : State) → tries true site h place notes rest ≡ nextOf answer after → answer ≡ End → ⊥
+unfolding tries
+tries-goes-on site h place notes rest answer after w e = false≢true (ap isOver (w ∙ ap (λ (a : Answer). nextOf a after) e))
+
 -- ---- a PDT
 
 -- the half on top goes on after this place
@@ -256,7 +278,7 @@ module _ (site : Site) (machine : Machine) (marks marks′ entered halves places
 
 module _ (site : Site) (k : ℕ) (machine : Machine) (marks entered entered′ halves′ places′ : List ℕ) (s : ℕ) (is-S : site .S ≡ s) where
   abbrev Begun : Machine
-  Begun = record { stage = Searching; depth = 1; round = machine .round + 1; found = machine .found }
+  Begun = record { stage = Searching; half = outHalf s; radio = machine .radio; depth = 1; round = machine .round + 1; found = machine .found }
 
   -- the bytes are those of the definition's first state in a round
   is-begun : enteredOf entered′ ≡ (λ x. eqb x (outHalf s)) → waitingOf halves′ places′ 1 ≡ waits (outHalf s) 0 nobody
@@ -284,11 +306,11 @@ module _ (site : Site) (k : ℕ) (machine : Machine) (marks entered entered′ h
     },
   )
 
-  pub begins : Ends site → machine .found < k → enteredOf entered′ ≡ (λ x. eqb x (outHalf s)) → waitingOf halves′ places′ 1 ≡ waits (outHalf s) 0 nobody → Sane site k (won (notesIn machine marks entered))
+  begins : Ends site → machine .found < k → enteredOf entered′ ≡ (λ x. eqb x (outHalf s)) → waitingOf halves′ places′ 1 ≡ waits (outHalf s) 0 nobody → Sane site k (won (notesIn machine marks entered))
       → Sane site k (searching (notesIn Begun marks entered′) (waitingOf halves′ places′ 1))
   begins two more e w sane = subst (Sane site k) (is-begun e w) (begun-sane two more sane)
 
-  pub round-begins : machine .found < k → enteredOf entered′ ≡ (λ x. eqb x (outHalf s)) → waitingOf halves′ places′ 1 ≡ waits (outHalf s) 0 nobody
+  round-begins : machine .found < k → enteredOf entered′ ≡ (λ x. eqb x (outHalf s)) → waitingOf halves′ places′ 1 ≡ waits (outHalf s) 0 nobody
       → innerStep site k (won (notesIn machine marks entered)) ≡ innerStep site k (searching (notesIn Begun marks entered′) (waitingOf halves′ places′ 1))
   unfolding innerStep goOn
   round-begins more e w = rw (lt-ltb (machine .found) k more) (ap (innerStep site k) (is-begun e w))
@@ -296,6 +318,63 @@ module _ (site : Site) (k : ℕ) (machine : Machine) (marks entered entered′ h
 pub rounds-end : (site : Site) (k : ℕ) (notes : Notes) → k ≤ notes .found → innerStep site k (won notes) ≡ release site 0 notes
 unfolding innerStep goOn
 rounds-end site k notes e = rw (le-ltb (notes .found) k e) refl
+
+-- ---- from round to round
+
+pub won-stage : (stage : Stage) → isWon stage ≡ true → stage ≡ Won
+won-stage Searching e = absurd (false≢true e)
+won-stage Declining e = absurd (false≢true e)
+won-stage Granting e = absurd (false≢true e)
+won-stage Won e = refl
+won-stage Carrying e = absurd (false≢true e)
+
+-- the state by its stage
+pub in-stage : (machine : Machine) (marks entered halves places : List ℕ) (stage : Stage) → machine .stage ≡ stage
+    → stateOf machine marks entered halves places ≡ stateIn stage (machine .half) (machine .radio) (notesIn machine marks entered) (waitingOf halves places (machine .depth))
+in-stage machine marks entered halves places stage e =
+    ap (λ (s : Stage). stateIn s (machine .half) (machine .radio) (notesIn machine marks entered) (waitingOf halves places (machine .depth))) e
+
+pub won-numbered : (task : Task) (machine : Machine) (links marks into entered halves places : List ℕ) → Ready task machine links marks into entered halves places → machine .stage ≡ Won → machine .round ≡ machine .found
+won-numbered task machine links marks into entered halves places ready e =
+    subst (Sane (ready .site) (task .k)) (in-stage machine marks entered halves places Won e) (ready .sane) .1
+
+module _ (task : Task) (machine : Machine) (entered halves places : List ℕ) where
+  -- the stage is another, or the last round is won
+  pub nothing-begins : (machine .stage ≡ Won → task .k ≤ machine .found) → Rounds task machine entered halves places machine entered halves places
+  nothing-begins full = record { continues = λ site links marks fits shows sane. record { sane = sane; same = refl }; full = full; still = λ e. refl }
+
+  pub round-has-begun : (entered′ halves′ places′ : List ℕ) → machine .stage ≡ Won → machine .found < task .k
+      → enteredOf entered′ ≡ (λ x. eqb x (outHalf (task .s))) → waitingOf halves′ places′ 1 ≡ waits (outHalf (task .s)) 0 nobody
+      → Rounds task machine entered halves places (record { stage = Searching; half = outHalf (task .s); radio = machine .radio; depth = 1; round = machine .round + 1; found = machine .found }) entered′ halves′ places′
+  round-has-begun entered′ halves′ places′ is-won more e w = record {
+    continues = λ site links marks fits shows sane.
+        let here = in-stage machine marks entered halves places Won is-won in
+        record {
+          sane = begins site (task .k) machine marks entered entered′ halves′ places′ (task .s) (shows .source) (ends task links site fits shows) more e w (subst (Sane site (task .k)) here sane);
+          same = ap (innerStep site (task .k)) here ∙ round-begins site (task .k) machine marks entered entered′ halves′ places′ (task .s) (shows .source) more e w;
+        };
+    full = λ d. absurd (false≢true (ap isWon d));
+    still = λ d. absurd (false≢true (sym d ∙ ap isWon is-won));
+  }
+
+  module _ (next : Machine) (links marks entered′ halves′ places′ : List ℕ) (rounds : Rounds task machine entered halves places next entered′ halves′ places′) where
+    pub next-ready : (into : List ℕ) → Ready task machine links marks into entered halves places → Ready task next links marks into entered′ halves′ places′
+    next-ready into ready = record {
+      fits = ready .fits;
+      site = ready .site;
+      shows = ready .shows;
+      mirrors = ready .mirrors;
+      sane = rounds .continues (ready .site) links marks (ready .fits) (ready .shows) (ready .sane) .sane;
+    }
+
+    -- what is told from there on is told from here on
+    pub told-next : Fits task → (stepped : Stepped) (marks″ into″ entered″ halves″ places″ : List ℕ)
+        → Told task links (stateOf next marks entered′ halves′ places′) stepped marks″ into″ entered″ halves″ places″
+        → Told task links (stateOf machine marks entered halves places) stepped marks″ into″ entered″ halves″ places″
+    told-next fits stepped marks″ into″ entered″ halves″ places″ told = record {
+      mirrors = told .mirrors;
+      answers = λ site shows sane. let on = rounds .continues site links marks fits shows sane in on .same ∙ told .answers site shows (on .sane);
+    }
 
 -- ---- one stage of the step
 

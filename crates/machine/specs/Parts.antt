@@ -9,9 +9,10 @@ use Rattle.site.specs.Map.{Site}
 use Rattle.tokens.specs.Rules.{State, innerStep, grant}
 use Rattle.tokens.specs.declared.Answer.{Answer}
 use Rattle.machine.specs.declared.Task.{Task}
+use Rattle.machine.specs.declared.Stage.the-variants.{Won}
 use Rattle.machine.specs.declared.Machine.{Machine}
 use Rattle.machine.specs.declared.Stepped.{Stepped}
-use Rattle.machine.specs.View.{Shows, Mirrors, enteredOf, waitingOf, notesIn, stateOf, nextOf}
+use Rattle.machine.specs.View.{Shows, Mirrors, isWon, enteredOf, waitingOf, notesIn, stateOf, nextOf}
 use Rattle.machine.specs.Sane.{Joined, Sane}
 use Rattle.machine.specs.Step.{Fits}
 
@@ -52,3 +53,16 @@ pub record Stands (task : Task) (links marks into : List ℕ) (state : State) : 
 -- from this state the answer and the state after it are the definition's
 abbrev pub Answers : Task → List ℕ → State → Answer → State → Type 0
 Answers task links before answer after = (site : Site) → Shows site task links → Sane site (task .k) before → innerStep site (task .k) before ≡ nextOf answer after
+
+-- the second state is one that a run comes to if the first is, and the inner step from both is the same
+pub record Continues (site : Site) (k : ℕ) (before after : State) : Type 0 where
+  pub sane : Sane site k after
+  pub same : innerStep site k before ≡ innerStep site k after
+
+-- a new round has begun where one was due, and a round that is still won was the last
+pub record Rounds (task : Task) (machine : Machine) (entered halves places : List ℕ) (next : Machine) (entered′ halves′ places′ : List ℕ) : Type 0 where
+  pub continues :
+      (site : Site) (links marks : List ℕ) → Fits task → Shows site task links → Sane site (task .k) (stateOf machine marks entered halves places)
+      → Continues site (task .k) (stateOf machine marks entered halves places) (stateOf next marks entered′ halves′ places′)
+  pub full : next .stage ≡ Won → task .k ≤ next .found
+  pub still : isWon (machine .stage) ≡ false → enteredOf entered′ ≡ enteredOf entered

@@ -1,5 +1,6 @@
 -- What the machine's numbers, sets and bytes stand for: the state of the token rules.
 use mathlib.Core.Path.{_≡_}
+use mathlib.Core.Bool.{Bool, true, false}
 use mathlib.Core.List.{List}
 use Prim.Native.Nat.{ℕ}
 use lib.ListN.{getD}
@@ -29,15 +30,23 @@ pub record Shows (site : Site) (task : Task) (links : List ℕ) : Type 0 where
 abbrev pub notesIn : Machine → List ℕ → List ℕ → Notes
 notesIn machine marks entered = record { round = machine .round; found = machine .found; marks = marksOf marks; entered = enteredOf entered }
 
-abbrev pub stateIn : Stage → Notes → Waiting → State
-stateIn Searching notes waiting = searching notes waiting
-stateIn (Declining h) notes waiting = declining h notes waiting
-stateIn (Granting h) notes waiting = granting h notes waiting
-stateIn Won notes waiting = won notes
-stateIn (Carrying v h) notes waiting = carrying v h notes
+-- by the stage, with the half that owes a reply or that DONE has come to, and the radio that S sent DONE to
+abbrev pub stateIn : Stage → ℕ → ℕ → Notes → Waiting → State
+stateIn Searching half radio notes waiting = searching notes waiting
+stateIn Declining half radio notes waiting = declining half notes waiting
+stateIn Granting half radio notes waiting = granting half notes waiting
+stateIn Won half radio notes waiting = won notes
+stateIn Carrying half radio notes waiting = carrying radio half notes
+
+abbrev pub isWon : Stage → Bool
+isWon Searching = false
+isWon Declining = false
+isWon Granting = false
+isWon Won = true
+isWon Carrying = false
 
 abbrev pub stateOf : Machine → List ℕ → List ℕ → List ℕ → List ℕ → State
-stateOf machine marks entered halves places = stateIn (machine .stage) (notesIn machine marks entered) (waitingOf halves places (machine .depth))
+stateOf machine marks entered halves places = stateIn (machine .stage) (machine .half) (machine .radio) (notesIn machine marks entered) (waitingOf halves places (machine .depth))
 
 -- the definition's word for an answer: a message and the state after it, or the end
 abbrev pub nextOf : Answer → State → Next

@@ -6,9 +6,9 @@ ghost use Prim.Native.Nat.{ℕ, suc, _+_, _*_, _≤_, _<_};
 ghost use lib.Dec.{eqb};
 ghost use Rattle.site.specs.Limits.{mostRadios};
 ghost use Rattle.site.specs.Map.{Site, inHalf};
-ghost use Rattle.tokens.specs.Rules.{searching, won, carrying, gets, tries, passOn, release, decline};
-ghost use Rattle.machine.specs.View.{enteredOf, waitingOf, notesIn, stateOf, nextOf};
-ghost use Rattle.machine.specs.Parts.{Sends, Grants, Granted, Stands, Answers};
+ghost use Rattle.tokens.specs.Rules.{searching, carrying, gets, tries, passOn, release, decline};
+ghost use Rattle.machine.specs.View.{isWon, enteredOf, waitingOf, notesIn, stateOf, nextOf};
+ghost use Rattle.machine.specs.Parts.{Sends, Grants, Granted, Stands, Answers, Rounds};
 ghost use Rattle.machine.specs.Step.{Ready, Told};
 use tokens::Answer;
 use tokens::Kind;
@@ -25,15 +25,18 @@ pub struct Task {
 // What happens next, as the definition's states have it.
 pub enum Stage {
     Searching,
-    Declining(usize),
-    Granting(usize),
+    Declining,
+    Granting,
     Won,
-    Carrying(usize, usize),
+    Carrying,
 }
 
-// Where the machine stands: the stage, how many halves wait, the rounds started and the paths found.
+// Where the machine stands: the stage, the half that owes a reply or that DONE has come to, the radio that S sent DONE to,
+// how many halves wait, the rounds started and the paths found. A stage without such a half or radio may hold any number there.
 pub struct Machine {
     pub stage: Stage,
+    pub half: usize,
+    pub radio: usize,
     pub depth: usize,
     pub round: usize,
     pub found: usize,
@@ -52,13 +55,29 @@ fn wide(byte: u8) -> usize
     byte as usize
 }
 
-// The machine at another stage, with so many halves that wait.
-fn moved(machine: Machine, stage: Stage, depth: usize) -> Machine
-    ensures { λ r. ⌜ r ≡ record { stage = stage; depth = depth; round = machine .round; found = machine .found } ⌝ }
+// The machine at another stage, where this half owes a reply and so many halves wait.
+fn moved(machine: Machine, stage: Stage, half: usize, depth: usize) -> Machine
+    ensures { λ r. ⌜ r ≡ record { stage = stage; half = half; radio = machine .radio; depth = depth; round = machine .round; found = machine .found } ⌝ }
 {
     Machine {
         stage,
+        half,
+        radio: machine.radio,
         depth,
+        round: machine.round,
+        found: machine.found,
+    }
+}
+
+// The machine once the DONE that S sent to this radio has come to this half.
+fn carried(machine: Machine, radio: usize, half: usize) -> Machine
+    ensures { λ r. ⌜ r ≡ record { stage = Stage.Carrying; half = half; radio = radio; depth = 0; round = machine .round; found = machine .found } ⌝ }
+{
+    Machine {
+        stage: Stage::Carrying,
+        half,
+        radio,
+        depth: 0,
         round: machine.round,
         found: machine.found,
     }
@@ -82,12 +101,7 @@ fn pass_on(n: usize, machine: Machine, h: usize, v: usize, w: usize) -> Stepped
     ensures { λ r. ⌜ ((site : Site) (marks entered halves places : List ℕ) → site .n ≡ n → passOn site h v w (notesIn machine marks entered) ≡ nextOf (r .answer) (stateOf (r .machine) marks entered halves places)) ⌝ }
 {
     if w < n {
-        return sent(
-            Kind::Done,
-            h,
-            2 * w,
-            moved(machine, Stage::Carrying(v, 2 * w), 0),
-        );
+        return sent(Kind::Done, h, 2 * w, carried(machine, v, 2 * w));
     }
     Stepped {
         answer: Answer::End,
@@ -116,12 +130,7 @@ fn carries(task: Task, machine: Machine, marks: &[u64; 64], v: usize, h: usize) 
         let w = marks::next_marked(task.n, marks, h / 2, 0);
         return pass_on(task.n, machine, h, v, w);
     }
-    sent(
-        Kind::Done,
-        h,
-        h + 1,
-        moved(machine, Stage::Carrying(v, h + 1), 0),
-    )
+    sent(Kind::Done, h, h + 1, carried(machine, v, h + 1))
 }
 
 // ---- rules 3 to 6, one function to a stage
@@ -140,14 +149,14 @@ fn receives(
 {
     if to == 2 * task.t {
         halves::enter(entered, to);
-        return moved(machine, Stage::Granting(to), machine.depth);
+        return moved(machine, Stage::Granting, to, machine.depth);
     }
     if halves::is_entered(entered, to) {
-        return moved(machine, Stage::Declining(to), machine.depth);
+        return moved(machine, Stage::Declining, to, machine.depth);
     }
     halves::enter(entered, to);
     halves::push(halves, places, machine.depth, to);
-    moved(machine, Stage::Searching, machine.depth + 1)
+    moved(machine, Stage::Searching, to, machine.depth + 1)
 }
 
 // The half on top, h, sends a PDT to what stands at this place of its order.
@@ -186,6 +195,7 @@ fn searches(
 ) -> Stepped
     requires { ⌜ Stands task (now links) (now marks) (now into) (searching (notesIn machine (now marks) (now entered)) (waitingOf (now halves) (now places) (machine .depth))) ⌝ }
     ensures { λ r. ⌜ Answers task (now (links .entry)) (searching (notesIn machine (now (marks .entry)) (now (entered .entry))) (waitingOf (now (halves .entry)) (now (places .entry)) (machine .depth))) (r .answer) (stateOf (r .machine) (now (marks .entry)) (now (entered .exit)) (now (halves .exit)) (now (places .exit))) ⌝ }
+    ensures { λ r. ⌜ (r .answer ≡ Answer.End → enteredOf (now (entered .exit)) ≡ enteredOf (now (entered .entry))) ⌝ }
 {
     let top = machine.depth - 1;
     let h = wide(halves[top]);
@@ -206,7 +216,12 @@ fn searches(
         return releases(task, machine, marks, 0);
     }
     let asker = wide(halves[top - 1]);
-    sent(Kind::PdtB, h, asker, moved(machine, Stage::Searching, top))
+    sent(
+        Kind::PdtB,
+        h,
+        asker,
+        moved(machine, Stage::Searching, h, top),
+    )
 }
 
 // Half y, which was entered before, replies PDT_B to the half on top.
@@ -220,7 +235,7 @@ fn declines(machine: Machine, halves: &[u8; 128], y: usize) -> Stepped
         Kind::PdtB,
         y,
         asker,
-        moved(machine, Stage::Searching, machine.depth),
+        moved(machine, Stage::Searching, y, machine.depth),
     )
 }
 
@@ -241,46 +256,80 @@ fn grants(
     if top == 0 {
         let won = Machine {
             stage: Stage::Won,
+            half: h,
+            radio: machine.radio,
             depth: 0,
             round: machine.round,
             found: machine.found + 1,
         };
         return sent(Kind::Pmt, y, h, won);
     }
-    sent(Kind::Pmt, y, h, moved(machine, Stage::Granting(h), top))
+    sent(Kind::Pmt, y, h, moved(machine, Stage::Granting, h, top))
 }
 
-// A round is won: the next one begins while fewer than k paths are found, else S sends DONE.
-fn goes_on(
+// ---- rule 1
+
+// Is a round won?
+pub fn is_won(stage: Stage) -> bool
+    ensures { λ r. ⌜ r ≡ isWon stage ⌝ }
+{
+    match stage {
+        Stage::Searching => false,
+        Stage::Declining => false,
+        Stage::Granting => false,
+        Stage::Won => true,
+        Stage::Carrying => false,
+    }
+}
+
+// A round is won: the next one begins while fewer than k paths are found.
+fn begins(
     task: Task,
     machine: Machine,
-    links: &[u64; 64],
-    marks: &[u64; 64],
-    into: &[u64; 64],
     entered: &mut [u8; 128],
     halves: &mut [u8; 128],
     places: &mut [u8; 128],
-) -> Stepped
-    requires { ⌜ Stands task (now links) (now marks) (now into) (won (notesIn machine (now marks) (now entered))) ⌝ }
-    ensures { λ r. ⌜ Answers task (now (links .entry)) (won (notesIn machine (now (marks .entry)) (now (entered .entry)))) (r .answer) (stateOf (r .machine) (now (marks .entry)) (now (entered .exit)) (now (halves .exit)) (now (places .exit))) ⌝ }
+) -> Machine
+    requires { ⌜ (task .s < mostRadios) × (machine .stage ≡ Stage.Won) × (machine .round ≡ machine .found) ⌝ }
+    ensures { λ r. ⌜ Rounds task machine (now (entered .entry)) (now (halves .entry)) (now (places .entry)) r (now (entered .exit)) (now (halves .exit)) (now (places .exit)) ⌝ }
 {
     if machine.found >= task.k {
-        return releases(task, machine, marks, 0);
+        return machine;
     }
     let source = 2 * task.s + 1;
     halves::enter_only(entered, source);
     halves::push(halves, places, 0, source);
-    let begun = Machine {
+    Machine {
         stage: Stage::Searching,
+        half: source,
+        radio: machine.radio,
         depth: 1,
         round: machine.round + 1,
         found: machine.found,
-    };
-    searches(task, begun, links, marks, into, entered, halves, places)
+    }
+}
+
+// Where a round is won and another is due, that one begins. At every other stage nothing happens.
+fn next_round(
+    task: Task,
+    machine: Machine,
+    entered: &mut [u8; 128],
+    halves: &mut [u8; 128],
+    places: &mut [u8; 128],
+) -> Machine
+    requires { ⌜ (task .s < mostRadios) × (machine .stage ≡ Stage.Won → machine .round ≡ machine .found) ⌝ }
+    ensures { λ r. ⌜ Rounds task machine (now (entered .entry)) (now (halves .entry)) (now (places .entry)) r (now (entered .exit)) (now (halves .exit)) (now (places .exit)) ⌝ }
+{
+    let stage = machine.stage;
+    if is_won(stage) {
+        return begins(task, machine, entered, halves, places);
+    }
+    machine
 }
 
 // One inner step: the message that the rules send next, or the end of the run, and where the machine stands after it.
-// What the lent rows and bytes hold then is the definition's state once the message is delivered.
+// What the lent rows and bytes hold then is the definition's state once the message is delivered. The end of the run leaves
+// the halves entered as they were, but for a round that was won, after which the next may have begun.
 pub fn step(
     task: Task,
     machine: Machine,
@@ -293,13 +342,15 @@ pub fn step(
 ) -> Stepped
     requires { ⌜ Ready task machine (now links) (now marks) (now into) (now entered) (now halves) (now places) ⌝ }
     ensures { λ r. ⌜ Told task (now (links .entry)) (stateOf machine (now (marks .entry)) (now (entered .entry)) (now (halves .entry)) (now (places .entry))) r (now (marks .exit)) (now (into .exit)) (now (entered .exit)) (now (halves .exit)) (now (places .exit)) ⌝ }
+    ensures { λ r. ⌜ (r .answer ≡ Answer.End → isWon (machine .stage) ≡ false → enteredOf (now (entered .exit)) ≡ enteredOf (now (entered .entry))) ⌝ }
 {
-    let stage = machine.stage;
+    let current = next_round(task, machine, entered, halves, places);
+    let stage = current.stage;
     match stage {
-        Stage::Searching => searches(task, machine, links, marks, into, entered, halves, places),
-        Stage::Declining(y) => declines(machine, halves, y),
-        Stage::Granting(y) => grants(machine, marks, into, halves, y),
-        Stage::Won => goes_on(task, machine, links, marks, into, entered, halves, places),
-        Stage::Carrying(v, h) => carries(task, machine, marks, v, h),
+        Stage::Searching => searches(task, current, links, marks, into, entered, halves, places),
+        Stage::Declining => declines(current, halves, current.half),
+        Stage::Granting => grants(current, marks, into, halves, current.half),
+        Stage::Won => releases(task, current, marks, 0),
+        Stage::Carrying => carries(task, current, marks, current.radio, current.half),
     }
 }

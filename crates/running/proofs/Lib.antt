@@ -1,4 +1,3 @@
 pub mod Sane
-pub mod Heard
 pub mod Turn
 pub mod Start

@@ -43,7 +43,7 @@ module _ (task : Task) (marks entered halves places : List ℕ) (fits : Fits tas
     (a : marks ≡ replicate 64 0) (b : enteredOf entered ≡ (λ h. eqb h (2 * task .s + 1))) (c : waitingOf halves places 1 ≡ waits (2 * task .s + 1) 0 nobody) where
   -- what the machine stands for before its first step
   abbrev pub begins : State
-  begins = stateOf (record { stage = Searching; depth = 1; round = 1; found = 0 }) marks entered halves places
+  begins = stateOf (record { stage = Searching; half = 2 * task .s + 1; radio = 0; depth = 1; round = 1; found = 0 }) marks entered halves places
 
   -- it is the start of the token rules
   stands-at-start : (site : Site) → site .S ≡ task .s → begins ≡ start site

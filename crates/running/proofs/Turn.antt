@@ -1,18 +1,17 @@
 -- A turn of the loop: what was sent so far and the run from the present state with the rest of the budget make up the whole run. Assumes nothing.
 use mathlib.Core.Path.{_≡_, refl, sym, ap, _∙_}
-use mathlib.Core.Bool.{not}
+use mathlib.Core.Bool.{Bool, true, false, cond, false≢true}
 use mathlib.Core.List.{List, [], _∷_, _++_, append-assoc, append-nil}
 use Prim.Native.Nat.{ℕ, zero, suc, _+_, _*_, _-_, _≤_, _<_}
 use native.Mathlib.Nat.{sub-zero}
 use native.Mathlib.Omega.{arith}
-use lib.Dec.{eqb}
 use lib.ListN.{length, set, drop, length-append, length-drop}
-use Rattle.site.specs.Limits.{mostRadios, mostPaths}
+use Rattle.site.specs.Limits.{mostPaths}
 use Rattle.site.specs.Map.{Site}
 use Rattle.tokens.specs.declared.Answer.{Answer}
 use Rattle.tokens.specs.declared.Answer.the-variants.{Sent, End}
 use Rattle.tokens.specs.declared.Message.{Message}
-use Rattle.tokens.specs.Rules.{Notes, Waiting, State, sends, over, innerStep}
+use Rattle.tokens.specs.Rules.{Entered, Notes, Waiting, State, sends, over, innerStep}
 use Rattle.tokens.specs.Run.{Entry, Run, notesOf, logged, runOn, runFrom}
 use Rattle.outcome.specs.Leaves.{kindNumber, logBytes}
 use Rattle.machine.specs.declared.Task.{Task}
@@ -23,8 +22,7 @@ use Rattle.machine.specs.declared.Stepped.{Stepped}
 use Rattle.machine.specs.View.{Shows, enteredOf, stateIn, stateOf, nextOf}
 use Rattle.machine.specs.Sane.{Sane}
 use Rattle.machine.specs.Step.{Fits, Told}
-use Rattle.running.specs.Run.{written, Writable, noted, Leaves}
-use Rattle.running.proofs.Heard.{entered-after}
+use Rattle.running.specs.Run.{written, Writable, Leaves}
 use Rattle.running.proofs.Sane.{Sound, sound-step, sane-step, sane-rounds}
 
 -- ---- the log's bytes
@@ -166,32 +164,20 @@ module _ {task : Task} {budget : ℕ} {links : List ℕ} {begin : State} {before
         to-fits = omega (arith, sound .to-below, shows .radios, fits .few);
       }
 
-  -- and there is a byte for the half that gets it
-  pub partly-below : Fits task → (message : Message) (next : State) (site : Site) → Shows site task links → Sane site (task .k) begin → innerStep site (task .k) state ≡ sends message next → message .to < 2 * mostRadios
-  partly-below fits message next site shows sane e = omega (arith, partly-sound fits message next site shows sane e .to-below, shows .radios, fits .few)
-
 -- ---- what the machine tells
 
 -- the notes of a state are the machine's own
-pub notes-in : (stage : Stage) (notes : Notes) (waiting : Waiting) → notesOf (stateIn stage notes waiting) ≡ notes
-notes-in Searching notes waiting = refl
-notes-in (Declining h) notes waiting = refl
-notes-in (Granting h) notes waiting = refl
-notes-in Won notes waiting = refl
-notes-in (Carrying v h) notes waiting = refl
+pub notes-in : (stage : Stage) (half radio : ℕ) (notes : Notes) (waiting : Waiting) → notesOf (stateIn stage half radio notes waiting) ≡ notes
+notes-in Searching half radio notes waiting = refl
+notes-in Declining half radio notes waiting = refl
+notes-in Granting half radio notes waiting = refl
+notes-in Won half radio notes waiting = refl
+notes-in Carrying half radio notes waiting = refl
 
 module _ {task : Task} {links : List ℕ} {before : State} {stepped : Stepped} {marks into entered halves places : List ℕ} (told : Told task links before stepped marks into entered halves places) where
   pub told-sends : (message : Message) → stepped .answer ≡ Sent message → (site : Site) → Shows site task links → Sane site (task .k) before
       → innerStep site (task .k) before ≡ sends message (stateOf (stepped .machine) marks entered halves places)
   told-sends message e site shows sane = told .answers site shows sane ∙ ap (λ (answer : Answer). nextOf answer (stateOf (stepped .machine) marks entered halves places)) e
-
-  -- the halves entered once the message is delivered, from those that were entered
-  pub told-entered : (machine : Machine) (marks₀ entered₀ halves₀ places₀ : List ℕ) → before ≡ stateOf machine marks₀ entered₀ halves₀ places₀
-      → (message : Message) → stepped .answer ≡ Sent message → (site : Site) → Shows site task links → Sane site (task .k) before
-      → enteredOf entered ≡ noted (2 * task .s + 1) message (not (eqb (stepped .machine .round) (machine .round))) (enteredOf entered₀)
-  told-entered machine marks₀ entered₀ halves₀ places₀ from message e site shows sane =
-      let after = entered-after site (task .k) before message _ (told-sends message e site shows sane) in
-      rw (from, notes-in (stepped .machine .stage) _ _, notes-in (machine .stage) _ _, shows .source) at after
 
   pub told-over : stepped .answer ≡ End → (site : Site) → Shows site task links → Sane site (task .k) before → innerStep site (task .k) before ≡ over
   told-over e site shows sane = told .answers site shows sane ∙ ap (λ (answer : Answer). nextOf answer (stateOf (stepped .machine) marks entered halves places)) e
@@ -210,7 +196,7 @@ pub machine-leaves : {task : Task} {budget : ℕ} {links : List ℕ} {begin : St
     → runFrom site (task .k) (budget - sent) (stateOf machine marks entered halves places) ≡ record { log = []; last = stateOf machine marks entered halves places }
     → Leaves (runFrom site (task .k) budget begin) (record { rounds = machine .round; found = machine .found; messages = sent }) after before bytes
 machine-leaves machine marks entered halves places partly after last site shows sane e =
-    let same = notes-in (machine .stage) _ _ in
+    let same = notes-in (machine .stage) _ _ _ _ in
     rw (partly-ends partly site shows sane e)
     (record {
       messages = sym (partly .number);
@@ -219,3 +205,13 @@ machine-leaves machine marks entered halves places partly after last site shows 
       entered-last = last ∙ sym (ap (λ (notes : Notes). notes .entered) same);
       bytes = partly .filled;
     })
+
+-- the bytes left are those of the state that the run ends in
+pub settled : (b : Bool) (left kept own before : Entered) → left ≡ cond b kept own → (b ≡ true → kept ≡ before) → (b ≡ false → own ≡ before) → left ≡ before
+settled true left kept own before e f g = e ∙ f refl
+settled false left kept own before e f g = e ∙ g refl
+
+-- where a round is won they are those that the machine has now
+pub kept-won : (b : Bool) (left own kept : Entered) → left ≡ cond b own kept → b ≡ true → left ≡ own
+kept-won true left own kept e d = e
+kept-won false left own kept e d = absurd (false≢true d)

@@ -1,16 +1,12 @@
 -- The contracts of a run: what it asks of its caller, and what it leaves.
 use mathlib.Core.Path.{_≡_}
-use mathlib.Core.Bool.{Bool, true, false, _&&_, _||_, cond}
 use mathlib.Core.List.{List, _++_}
 use Prim.Native.Nat.{ℕ, _+_, _*_, _≤_, _<_}
-use lib.Dec.{eqb}
 use lib.ListN.{length, set, drop}
 use Rattle.site.specs.Limits.{mostPaths}
 use Rattle.site.specs.Map.{Site}
-use Rattle.tokens.specs.declared.Kind.{Kind}
-use Rattle.tokens.specs.declared.Kind.the-variants.{Pdt, PdtB, Pmt, Done}
 use Rattle.tokens.specs.declared.Message.{Message}
-use Rattle.tokens.specs.Rules.{Entered, State}
+use Rattle.tokens.specs.Rules.{State}
 use Rattle.tokens.specs.Run.{Run, notesOf, runFrom}
 use Rattle.outcome.specs.Leaves.{kindNumber, logBytes}
 use Rattle.machine.specs.declared.Task.{Task}
@@ -31,22 +27,6 @@ pub record Writable (log : List ℕ) (at : ℕ) (message : Message) (round : ℕ
   pub round-fits : round < 256
   pub from-fits : message .from < 256
   pub to-fits : message .to < 256
-
--- ---- the halves entered
-
-abbrev pub isPdt : Kind → Bool
-isPdt Pdt = true
-isPdt PdtB = false
-isPdt Pmt = false
-isPdt Done = false
-
--- rules 4 and 5: a PDT enters the half that gets it, and no other message enters any
-abbrev pub enters : Kind → ℕ → Entered
-enters kind to h = isPdt kind && eqb h to
-
--- rule 2: where a new round has begun, S's out half alone was entered before the message
-abbrev pub noted : ℕ → Message → Bool → Entered → Entered
-noted source message fresh entered h = enters (message .kind) (message .to) h || cond fresh (eqb h source) (entered h)
 
 -- ---- a run
 

@@ -1,17 +1,15 @@
 // The run that fills the log: the machine's inner steps, one after another, until the run is over or the budget is spent.
 ghost use mathlib.Core.Path.{_≡_};
-ghost use mathlib.Core.Bool.{not, _||_};
-ghost use Prim.Native.Nat.{_+_, _*_, _<_};
-ghost use lib.Dec.{eqb};
+ghost use mathlib.Core.Bool.{false, cond};
+ghost use Prim.Native.Nat.{_*_};
 ghost use lib.ListN.{replicate};
-ghost use Rattle.site.specs.Limits.{mostRadios};
 ghost use Rattle.site.specs.Map.{Site};
 ghost use Rattle.tokens.specs.Rules.{start};
 ghost use Rattle.tokens.specs.Run.{runFrom};
 ghost use Rattle.outcome.specs.Leaves.{kindNumber};
-ghost use Rattle.machine.specs.View.{Shows, enteredOf, stateOf};
+ghost use Rattle.machine.specs.View.{Shows, isWon, enteredOf, stateOf};
 ghost use Rattle.machine.specs.Step.{Ready};
-ghost use Rattle.running.specs.Run.{written, Writable, isPdt, enters, noted, Leaves, LeavesFrom, Roomy, Runs};
+ghost use Rattle.running.specs.Run.{written, Writable, Leaves, LeavesFrom, Roomy, Runs};
 use machine::Machine;
 use machine::Stage;
 use machine::Task;
@@ -21,6 +19,9 @@ use tokens::Message;
 
 // The log takes so many bytes a message.
 const MESSAGE_BYTES: usize = 4;
+
+// There are at most so many halves, two to a radio.
+const MOST_HALVES: usize = 128;
 
 // What a run came to: the rounds started, the paths found, and the messages sent.
 pub struct Ran {
@@ -70,47 +71,40 @@ pub fn no_bytes() -> [u8; 128]
 
 // ---- the halves entered in a round
 
-// Is it a PDT?
-fn is_pdt(kind: Kind) -> bool
-    ensures { λ r. ⌜ r ≡ isPdt kind ⌝ }
+// The bytes for the halves entered are copied.
+fn copy(from: &[u8; 128], to: &mut [u8; 128])
+    ensures { λ r. ⌜ enteredOf (now (to .exit)) ≡ enteredOf (now (from .entry)) ⌝ }
 {
-    match kind {
-        Kind::Pdt => true,
-        Kind::PdtB => false,
-        Kind::Pmt => false,
-        Kind::Done => false,
+    let f = &from[..];
+    let s = &mut to[..];
+    for i in 0..MOST_HALVES {
+        s[i] = f[i];
     }
 }
 
-// A PDT enters the half that gets it.
-fn hear(entered: &mut [u8; 128], message: Message)
-    requires { ⌜ message .to < 2 * mostRadios ⌝ }
-    ensures { λ r. ⌜ enteredOf (now (entered .exit)) ≡ (λ h. enters (message .kind) (message .to) h || enteredOf (now (entered .entry)) h) ⌝ }
+// The machine's own bytes are copied where a round is won: if the run is over then, the next round may have begun in them.
+fn keep(won: bool, own: &[u8; 128], entered: &mut [u8; 128])
+    ensures { λ r. ⌜ enteredOf (now (entered .exit)) ≡ cond won (enteredOf (now (own .entry))) (enteredOf (now (entered .entry))) ⌝ }
 {
-    let kind = message.kind;
-    if is_pdt(kind) {
-        halves::enter(entered, message.to);
+    if won {
+        copy(own, entered);
     }
 }
 
-// The halves entered once a message is delivered, from those before it and the rounds before and after. The machine keeps
-// its own bytes for them, but promises nothing of those once the run is over.
-fn note(entered: &mut [u8; 128], message: Message, source: usize, last: usize, round: usize)
-    requires { ⌜ (message .to < 2 * mostRadios) × (source < 2 * mostRadios) ⌝ }
-    ensures { λ r. ⌜ enteredOf (now (entered .exit)) ≡ noted source message (not (eqb round last)) (enteredOf (now (entered .entry))) ⌝ }
+// At the end of a run they are copied unless a round is won.
+fn settle(won: bool, own: &[u8; 128], entered: &mut [u8; 128])
+    ensures { λ r. ⌜ enteredOf (now (entered .exit)) ≡ cond won (enteredOf (now (entered .entry))) (enteredOf (now (own .entry))) ⌝ }
 {
-    if round == last {
-        hear(entered, message);
+    if won {
         return;
     }
-    halves::enter_only(entered, source);
-    hear(entered, message);
+    copy(own, entered);
 }
 
 // ---- the run
 
 // The run from where the machine stands: each message goes into the log with the round that it leaves the machine in. The
-// machine's own bytes for the halves entered are `own`.
+// machine's own bytes for the halves entered are `own`; those of the last round are left in `entered`.
 fn run_on(
     task: Task,
     begin: Machine,
@@ -126,10 +120,9 @@ fn run_on(
 ) -> Ran
     requires { ⌜ Ready task begin (now links) (now marks) (now into) (now own) (now halves) (now places) ⌝ }
     requires { ⌜ Roomy task budget (now log) ⌝ }
-    requires { ⌜ enteredOf (now entered) ≡ enteredOf (now own) ⌝ }
+    requires { ⌜ isWon (begin .stage) ≡ false ⌝ }
     ensures { λ r. ⌜ LeavesFrom task budget (now (links .entry)) (stateOf begin (now (marks .entry)) (now (own .entry)) (now (halves .entry)) (now (places .entry))) r (now (entered .exit)) (now (log .entry)) (now (log .exit)) ⌝ }
 {
-    let source = 2 * task.s + 1;
     let mut machine = begin;
     let mut sent = 0;
     while sent < budget {
@@ -140,10 +133,13 @@ fn run_on(
         };
         let next = stepped.machine;
         put(log, sent, message, next.round);
-        note(entered, message, source, machine.round, next.round);
+        let stage = next.stage;
+        keep(machine::is_won(stage), own, entered);
         machine = next;
         sent += 1;
     }
+    let last = machine.stage;
+    settle(machine::is_won(last), own, entered);
     Ran {
         rounds: machine.round,
         found: machine.found,
@@ -170,10 +166,11 @@ pub fn run(
     let mut own = no_bytes();
     let source = 2 * task.s + 1;
     halves::enter_only(&mut own, source);
-    halves::enter_only(entered, source);
     halves::push(&mut halves, &mut places, 0, source);
     let begin = Machine {
         stage: Stage::Searching,
+        half: source,
+        radio: 0,
         depth: 1,
         round: 1,
         found: 0,

@@ -44,11 +44,11 @@ returns-2 c =
 add-sent : tie.Need-add-sent
 add-sent c = omega arith
 
-add-t13 : tie.Need-add-t13
-add-t13 c = omega arith
+add-carried : tie.Need-add-carried
+add-carried c = omega arith
 
-moved-requires : tie.Need-moved-requires
-moved-requires c κs = tt
+carried-requires : tie.Need-carried-requires
+carried-requires c κs = tt
 
 sent-requires : tie.Need-sent-requires
 sent-requires c κs = tt
@@ -57,7 +57,7 @@ returns-3 : tie.Need-returns-3
 unfolding innerStep carry
 returns-3 c =
     λ links entered halves places site shows sane.
-    simp (shows .sink, ne-eqb _ _ (c .before .before .before .if1 .left), ne-eqb _ _ (c .before .before .if2 .left), c .sent .ensures, c .before .moved .ensures)
+    simp (shows .sink, ne-eqb _ _ (c .before .before .before .if1 .left), ne-eqb _ _ (c .before .before .if2 .left), c .sent .ensures, c .before .carried .ensures)
 
 pub carries-spec : {M : Type 1} → statement M
 carries-spec =
@@ -71,7 +71,7 @@ carries-spec =
     pass-on-requires
     returns-2
     add-sent
-    add-t13
-    moved-requires
+    add-carried
+    carried-requires
     sent-requires
     returns-3)

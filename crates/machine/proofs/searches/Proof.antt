@@ -1,14 +1,15 @@
 -- `machine::searches` meets its contract. Assumes nothing.
-use mathlib.Core.Path.{_≡_, ap, sym, _∙_}
+use mathlib.Core.Path.{_≡_, refl, ap, sym, _∙_}
 use Prim.Native.Nat.{ℕ, _-_}
 use native.Mathlib.Omega.{arith}
 use lib.ListN.{getD}
 use Rattle.site.specs.Map.{Site}
 use Rattle.tokens.specs.Rules.{searching}
+use Rattle.machine.specs.declared.Stepped.{Stepped}
 use Rattle.machine.specs.View.{Shows, notesIn, waitingOf}
 use Rattle.machine.specs.Sane.{Sane}
 use Rattle.marks.specs.Rows.{Half, Held}
-use Rattle.machine.proofs.Stages.{Top, search-top, search-held, search-half, search-sends, search-fails, search-replies}
+use Rattle.machine.proofs.Stages.{Top, search-top, search-held, search-half, search-sends, search-fails, search-replies, sent-goes-on, tries-goes-on}
 use Rattle.machine.proofs.searches.Statement.{statement}
 use Rattle.machine.proofs.searches.Tie as tie
 
@@ -63,12 +64,14 @@ sends-on-requires c κs =
 returns : tie.Need-returns
 returns c =
     let at = c .before .before .before .before .before .before .before .before .before .before .before .before .args in
-    let deep = facts (c .before .before .before .before .before .before .before .before .before .before .before .before) .deep in
-    λ site shows sane.
-    let n = shows .radios in
-    search-sends site (at .task .k) (notesIn (at .machine) (at .marks .now) (at .entered .now)) (at .halves .now) (at .places .now) (at .machine .depth) (at .machine .depth - 1) (c .before .before .before .before .before .before .before .before .before .wide .result) (c .before .before .before .before .before .before .before .wide2 .result) (c .before .before .before .before .before .before .next-place .result) deep (c .before .before .before .before .before .before .before .before .before .wide .ensures) (c .before .before .before .before .before .before .before .wide2 .ensures)
-    (c .before .before .before .before .before .before .next-place .ensures site (shows .radios) (shows .source) (shows .sink) (held (c .before .before .before .before .before .before .before .before .before .before .before .before) site shows sane) (half (c .before .before .before .before .before .before .before .before .before) site shows sane)) (omega (arith, c .before .before .before .before .if1 .taken))
-    ∙ c .sends-on .ensures site (at .marks .now) (at .machine .depth - 1) n (shows .sink) deep
+    let deep = facts (c .before .before .before .before .before .before .before .before .before .before .before .before) .deep in (
+      λ site shows sane.
+          let n = shows .radios in
+          search-sends site (at .task .k) (notesIn (at .machine) (at .marks .now) (at .entered .now)) (at .halves .now) (at .places .now) (at .machine .depth) (at .machine .depth - 1) (c .before .before .before .before .before .before .before .before .before .wide .result) (c .before .before .before .before .before .before .before .wide2 .result) (c .before .before .before .before .before .before .next-place .result) deep (c .before .before .before .before .before .before .before .before .before .wide .ensures) (c .before .before .before .before .before .before .before .wide2 .ensures)
+          (c .before .before .before .before .before .before .next-place .ensures site (shows .radios) (shows .source) (shows .sink) (held (c .before .before .before .before .before .before .before .before .before .before .before .before) site shows sane) (half (c .before .before .before .before .before .before .before .before .before) site shows sane)) (omega (arith, c .before .before .before .before .if1 .taken))
+          ∙ c .sends-on .ensures site (at .marks .now) (at .machine .depth - 1) n (shows .sink) deep,
+      λ e. absurd (tries-goes-on (c .before .before .before .before .before .before .before .before .before .before .before .before .pre .site) _ _ _ _ _ _ (c .sends-on .ensures (c .before .before .before .before .before .before .before .before .before .before .before .before .pre .site) (at .marks .now) (at .machine .depth - 1) (c .before .before .before .before .before .before .before .before .before .before .before .before .pre .shows .radios) (c .before .before .before .before .before .before .before .before .before .before .before .before .pre .shows .sink) deep) e),
+    )
 
 releases-requires : tie.Need-releases-requires
 releases-requires c κs = let top = facts (c .before .before .before .before .before .before .before .before .before) in omega arith
@@ -76,12 +79,14 @@ releases-requires c κs = let top = facts (c .before .before .before .before .be
 returns-2 : tie.Need-returns-2
 returns-2 c =
     let at = c .before .before .before .before .before .before .before .before .before .before .args in
-    let deep = facts (c .before .before .before .before .before .before .before .before .before .before) .deep in
-    λ site shows sane.
-    let n = shows .radios in
-    search-fails site (at .task .k) (notesIn (at .machine) (at .marks .now) (at .entered .now)) (at .halves .now) (at .places .now) (at .machine .depth) (at .machine .depth - 1) (c .before .before .before .before .before .before .before .wide .result) (c .before .before .before .before .before .wide2 .result) (c .before .before .before .before .next-place .result) deep (c .before .before .before .before .before .before .before .wide .ensures) (c .before .before .before .before .before .wide2 .ensures)
-    (c .before .before .before .before .next-place .ensures site (shows .radios) (shows .source) (shows .sink) (held (c .before .before .before .before .before .before .before .before .before .before) site shows sane) (half (c .before .before .before .before .before .before .before) site shows sane)) (omega (arith, c .before .before .if1 .left)) (c .before .if2 .taken)
-    ∙ c .releases .ensures site (at .entered .now) (at .halves .now) (at .places .now) n (shows .source)
+    let deep = facts (c .before .before .before .before .before .before .before .before .before .before) .deep in (
+      λ site shows sane.
+          let n = shows .radios in
+          search-fails site (at .task .k) (notesIn (at .machine) (at .marks .now) (at .entered .now)) (at .halves .now) (at .places .now) (at .machine .depth) (at .machine .depth - 1) (c .before .before .before .before .before .before .before .wide .result) (c .before .before .before .before .before .wide2 .result) (c .before .before .before .before .next-place .result) deep (c .before .before .before .before .before .before .before .wide .ensures) (c .before .before .before .before .before .wide2 .ensures)
+          (c .before .before .before .before .next-place .ensures site (shows .radios) (shows .source) (shows .sink) (held (c .before .before .before .before .before .before .before .before .before .before) site shows sane) (half (c .before .before .before .before .before .before .before) site shows sane)) (omega (arith, c .before .before .if1 .left)) (c .before .if2 .taken)
+          ∙ c .releases .ensures site (at .entered .now) (at .halves .now) (at .places .now) n (shows .source),
+      λ e. refl,
+    )
 
 sub-wide : tie.Need-sub-wide
 sub-wide c = omega arith
@@ -101,12 +106,14 @@ sent-requires c κs = tt
 returns-3 : tie.Need-returns-3
 returns-3 c =
     let at = c .before .before .before .before .before .before .before .before .before .before .before .before .before .args in
-    let deep = facts (c .before .before .before .before .before .before .before .before .before .before .before .before .before) .deep in
-    λ site shows sane.
-    let n = shows .radios in
-    simp (c .sent .ensures, c .before .moved .ensures, c .before .before .wide3 .ensures)
-    (search-replies site (at .task .k) (notesIn (at .machine) (at .marks .now) (at .entered .now)) (at .halves .now) (at .places .now) (at .machine .depth) (at .machine .depth - 1) (c .before .before .before .before .before .before .before .before .before .before .wide .result) (c .before .before .before .before .before .before .before .before .wide2 .result) (c .before .before .before .before .before .before .before .next-place .result) deep (c .before .before .before .before .before .before .before .before .before .before .wide .ensures) (c .before .before .before .before .before .before .before .before .wide2 .ensures)
-    (c .before .before .before .before .before .before .before .next-place .ensures site (shows .radios) (shows .source) (shows .sink) (held (c .before .before .before .before .before .before .before .before .before .before .before .before .before) site shows sane) (half (c .before .before .before .before .before .before .before .before .before .before) site shows sane)) (omega (arith, c .before .before .before .before .before .if1 .left)) (at .machine .depth - 1 - 1) (omega arith))
+    let deep = facts (c .before .before .before .before .before .before .before .before .before .before .before .before .before) .deep in (
+      λ site shows sane.
+          let n = shows .radios in
+          simp (c .sent .ensures, c .before .moved .ensures, c .before .before .wide3 .ensures)
+          (search-replies site (at .task .k) (notesIn (at .machine) (at .marks .now) (at .entered .now)) (at .halves .now) (at .places .now) (at .machine .depth) (at .machine .depth - 1) (c .before .before .before .before .before .before .before .before .before .before .wide .result) (c .before .before .before .before .before .before .before .before .wide2 .result) (c .before .before .before .before .before .before .before .next-place .result) deep (c .before .before .before .before .before .before .before .before .before .before .wide .ensures) (c .before .before .before .before .before .before .before .before .wide2 .ensures)
+          (c .before .before .before .before .before .before .before .next-place .ensures site (shows .radios) (shows .source) (shows .sink) (held (c .before .before .before .before .before .before .before .before .before .before .before .before .before) site shows sane) (half (c .before .before .before .before .before .before .before .before .before .before) site shows sane)) (omega (arith, c .before .before .before .before .before .if1 .left)) (at .machine .depth - 1 - 1) (omega arith)),
+      λ e. absurd (sent-goes-on _ (sym (ap (λ (stepped : Stepped). stepped .answer) (c .sent .ensures)) ∙ e)),
+    )
 
 pub searches-spec : {M : Type 1} → statement M
 searches-spec =

@@ -1,5 +1,5 @@
 -- `running::run` meets its contract. Assumes nothing.
-use mathlib.Core.Path.{sym, _∙_}
+use mathlib.Core.Path.{refl}
 use Rattle.running.proofs.Start.{empty-mirrors, begins-sane, begins-leaves}
 use borrow.Author.Needs.{needs}
 use Rattle.running.proofs.run.Statement.{statement}
@@ -29,30 +29,27 @@ add-source c = search needs
 enter-only-requires : tie.Need-enter-only-requires
 enter-only-requires c κs = search needs
 
-enter-only-requires-2 : tie.Need-enter-only-requires-2
-enter-only-requires-2 c κs = search needs
-
 push-requires : tie.Need-push-requires
 push-requires c κs = search needs
 
 run-on-requires : tie.Need-run-on-requires
 run-on-requires c κs =
-    let asked = c .before .before .before .before .before .before .before .before .before .before .before .before .before .before .before .before .before .before .before .before .before .pre in
-    let marks = c .before .before .before .before .before .before .before .before .before .before .before .before .before .before .before .before .before .before .before .no-radios .ensures in
-    let into = c .before .before .before .before .before .before .before .before .before .before .before .before .before .before .before .before .before .before .no-radios2 .ensures in
-    let own = c .before .before .before .before .before .before .before .before .before .before .before .before .enter-only in
+    let asked = c .before .before .before .before .before .before .before .before .before .before .before .before .before .before .before .before .before .before .before .pre in
+    let marks = c .before .before .before .before .before .before .before .before .before .before .before .before .before .before .before .before .before .no-radios .ensures in
+    let into = c .before .before .before .before .before .before .before .before .before .before .before .before .before .before .before .before .no-radios2 .ensures in
+    let own = c .before .before .before .before .before .before .before .before .before .before .enter-only in
     let waiting = c .before .before .before .before .before .before .before .push in
     let sane = begins-sane _ _ (own .last .0) (waiting .last .0) (waiting .last .1 .0) (asked .fits) marks (own .ensures) (waiting .ensures) (asked .site) _ (asked .shows) (asked .wanted) in
-    (record { fits = asked .fits; site = asked .site; shows = asked .shows; mirrors = empty-mirrors _ _ marks into; sane = sane }, (asked .roomy, c .before .before .before .before .before .before .before .before .before .before .enter-only2 .ensures ∙ sym (own .ensures)))
+    (record { fits = asked .fits; site = asked .site; shows = asked .shows; mirrors = empty-mirrors _ _ marks into; sane = sane }, (asked .roomy, refl))
 
 same-length : tie.Need-same-length
 same-length c = search needs
 
 returns : tie.Need-returns
 returns c = λ site shows.
-    let asked = c .before .before .before .before .before .before .before .before .before .before .before .before .before .before .before .before .before .before .before .before .before .before .before .before .pre in
-    let marks = c .before .before .before .before .before .before .before .before .before .before .before .before .before .before .before .before .before .before .before .before .before .before .no-radios .ensures in
-    let own = c .before .before .before .before .before .before .before .before .before .before .before .before .before .before .before .enter-only in
+    let asked = c .before .before .before .before .before .before .before .before .before .before .before .before .before .before .before .before .before .before .before .before .before .before .pre in
+    let marks = c .before .before .before .before .before .before .before .before .before .before .before .before .before .before .before .before .before .before .before .before .no-radios .ensures in
+    let own = c .before .before .before .before .before .before .before .before .before .before .before .before .before .enter-only in
     let waiting = c .before .before .before .before .before .before .before .before .before .before .push in
     begins-leaves _ _ (own .last .0) (waiting .last .0) (waiting .last .1 .0) (asked .fits) marks (own .ensures) (waiting .ensures) site (shows .source) _
     (c .before .before .run-on .ensures site shows (begins-sane _ _ (own .last .0) (waiting .last .0) (waiting .last .1 .0) (asked .fits) marks (own .ensures) (waiting .ensures) site _ shows (asked .wanted)))
@@ -69,7 +66,6 @@ run-spec =
     mul-source
     add-source
     enter-only-requires
-    enter-only-requires-2
     push-requires
     run-on-requires
     same-length
