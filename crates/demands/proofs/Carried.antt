@@ -34,6 +34,10 @@ pub in-round-length : (round : ℕ) (log : List Message) → length (inRound rou
 in-round-length round [] = refl
 in-round-length round (m ∷ log) = ap suc (in-round-length round log)
 
+pub all-append {ℓ} : {A : Type ℓ} (P : A → Type 0) (log later : List A) → All P log → All P later → All P (log ++ later)
+all-append P [] later first second = second
+all-append P (m ∷ log) later first second = (first .0, all-append P log later (first .1) second)
+
 -- ---- the DONE messages of a trail
 
 -- from half h on, until T's in half, at most so many
@@ -58,14 +62,10 @@ from-all-done site marks (suc times) h = go (eqb h (inHalf (site .T))) (from-all
     go true ih = tt
     go false ih = (refl, ih)
 
-all-append : (log later : List Message) → All (λ (m : Message). m .kind ≡ Done) log → All (λ (m : Message). m .kind ≡ Done) later → All (λ (m : Message). m .kind ≡ Done) (log ++ later)
-all-append [] later first second = second
-all-append (m ∷ log) later first second = (first .0, all-append log later (first .1) second)
-
 pub all-done : (site : Site) (marks : Marks) (radios : List ℕ) → All (λ (m : Message). m .kind ≡ Done) (donesOf site marks radios)
 unfolding donesOf
 all-done site marks [] = tt
-all-done site marks (v ∷ radios) = (refl, all-append (donesFrom site marks (2 * site .n) (inHalf v)) (donesOf site marks radios) (from-all-done site marks (2 * site .n) (inHalf v)) (all-done site marks radios))
+all-done site marks (v ∷ radios) = (refl, all-append (λ (m : Message). m .kind ≡ Done) (donesFrom site marks (2 * site .n) (inHalf v)) (donesOf site marks radios) (from-all-done site marks (2 * site .n) (inHalf v)) (all-done site marks radios))
 
 -- ---- the next radio with a marked step: here, further on, none
 

@@ -33,6 +33,7 @@ use Rattle.rounds.proofs.Depth.{round-played}
 use Rattle.outcome.specs.Leaves.{runOf, pathsFound, cutFound, logBytes, pathBytes, zerosAfter, outcome, logLeft, pathsLeft, cutLeft}
 use Rattle.demands.specs.Demand2.{Demand2}
 use Rattle.demands.specs.Demand3.{Demand3}
+use Rattle.demands.proofs.Told.{DonesLast}
 use Rattle.demands.proofs.Whole.{Ran, run-is, ran}
 
 -- ---- M exists
@@ -241,6 +242,10 @@ module _ (call : Call) (accepted : outcome call .refusal ≡ 0) where
   -- the run ends with DONE at T, unless there is no path: DONE never fails on its way
   pub done-comes-to-T : (outcome call .paths ≡ 0) ⊎ ((v : ℕ) × (runOf call .last ≡ carrying v (inHalf (call .site .T)) (notesOf (runOf call .last))))
   done-comes-to-T = rw (paths-found, notes-are, run) (r .at-T)
+
+  -- no round is played after the first DONE
+  pub log-ends-with-dones : DonesLast (runOf call .log)
+  log-ends-with-dones = rw log-is (r .dones-last)
 
   -- ---- what an accepted call leaves, in the words of its run
 

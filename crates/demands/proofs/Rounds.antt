@@ -1,6 +1,6 @@
 -- All rounds of a run, whatever search plays them: the marks stay a flow of as many units as paths are found. Assumes nothing.
 use mathlib.Core.Path.{_≡_, refl, ap, _∙_}
-use mathlib.Core.List.{List, [], _++_, append-assoc}
+use mathlib.Core.List.{List, [], _++_}
 use mathlib.Core.Logic.{_⊎_, inl, inr}
 use Prim.Native.Nat.{ℕ, zero, suc, _+_, _*_, _≤_, _<_}
 use native.Mathlib.Nat.{mul-suc}
@@ -11,15 +11,15 @@ use borrow.Author.Tests.{lt-ltb, le-ltb}
 use Rattle.site.specs.Map.{Site, A}
 use Rattle.site.proofs.Valid.{Valid}
 use Rattle.tokens.specs.Rules.{Notes, State, won, onlyS, begun, justS, release, search, goOn, innerStep}
-use Rattle.tokens.specs.Run.{Entry, notesOf, walked}
+use Rattle.tokens.specs.Run.{Entry, notesOf}
 use Rattle.menger.proofs.Network.{Shut}
 use Rattle.menger.proofs.Flow.{Flow, one-more}
 use Rattle.routes.proofs.Trails.{networkOf}
 use Rattle.routes.proofs.Split.{split-of}
 use Rattle.rounds.proofs.Shows.{Leads, inRound, Won, Lost, Played}
-use Rattle.demands.proofs.Carried.{leads-on, in-round-length}
+use Rattle.demands.proofs.Carried.{leads-on, in-round-length, all-append}
 use Rattle.demands.proofs.Opening.{opens, one-round, won-at-the-end}
-use Rattle.demands.proofs.Told.{round-silent}
+use Rattle.demands.proofs.Told.{NoDone, round-no-done}
 use Rattle.demands.proofs.Tokens.{Orderly, round-orderly, later-rounds}
 
 -- rounds from these notes on, until S is about to send DONE
@@ -32,8 +32,7 @@ pub record AllPlayed (site : Site) (k : ℕ) (state : State) (notes : Notes) : T
   pub flow : Flow (networkOf site) (last .found) (last .marks)
   pub few : length log + 2 * A site * notes .round ≤ 2 * A site * suc (last .round)
   pub orderly : Orderly site (notes .round) log
-  -- it tells of no path
-  pub silent : (later : List Entry) → walked site (log ++ later) ≡ walked site later
+  pub no-done : NoDone log
   pub more : notes .found ≤ last .found
   -- all k paths are found, or the last round was lost
   pub outcome : ((last .found ≡ k) × (last .round ≡ k)) ⊎ ((last .found < k) × (last .round ≡ suc (last .found)) × Shut (networkOf site) (last .marks) (last .entered))
@@ -82,7 +81,7 @@ module _ (site : Site) (valid : Valid site) (k : ℕ)
         flow = rw (l .same-marks, l .same-found) flow;
         few = omega (arith, sent notes state p, ap (λ (r : ℕ). 2 * A site * suc r) (l .same-round), mul-suc (2 * A site) (notes .round));
         orderly = in-order notes state p;
-        silent = round-silent site (notes .round) (p .log) (λ x y. 0) (p .answered);
+        no-done = round-no-done (notes .round) (p .log) (λ x y. 0) (p .answered);
         more = omega (arith, l .same-found);
         outcome = inr (omega (arith, l .same-found), omega (arith, l .same-found, l .same-round), rw (l .same-marks) (l .shut));
         each-won = won-flow state notes p flow;
@@ -107,7 +106,7 @@ module _ (site : Site) (valid : Valid site) (k : ℕ)
         flow = rw (w .one-more) (one-more (split-of site valid) flow (w .walked));
         few = omega (arith, sent notes state p, ap (λ (r : ℕ). 2 * A site * suc r) (w .same-round), mul-suc (2 * A site) (notes .round));
         orderly = in-order notes state p;
-        silent = round-silent site (notes .round) (p .log) (λ x y. 0) (p .answered);
+        no-done = round-no-done (notes .round) (p .log) (λ x y. 0) (p .answered);
         more = omega (arith, w .one-more);
         outcome = inl (omega (arith, w .one-more), omega (arith, w .same-round));
         each-won = won-flow state notes p flow;
@@ -133,7 +132,7 @@ module _ (site : Site) (valid : Valid site) (k : ℕ)
           mul-suc (2 * A site) (notes .round),
         );
         orderly = later-rounds site (notes .round) (p .log) (rest .log) (in-order notes state p) (rw (w .same-round) at (rest .orderly));
-        silent = λ later. rw append-assoc (round-silent site (notes .round) (p .log) (λ x y. 0) (p .answered) (rest .log ++ later) ∙ rest .silent later);
+        no-done = all-append _ (inRound (notes .round) (p .log)) (rest .log) (round-no-done (notes .round) (p .log) (λ x y. 0) (p .answered)) (rest .no-done);
         more = omega (arith, w .one-more, rest .more);
         outcome = rest .outcome;
         each-won = λ opening after leads some shorter. earlier opening after leads some shorter (decLt (length (inRound (notes .round) (p .log))) (length opening));

@@ -5,8 +5,8 @@ use mathlib.Core.List.{List, [], _∷_, _++_, map, append-nil}
 use Prim.Native.Nat.{ℕ, zero, suc, _*_}
 use lib.Dec.{eqb}
 use borrow.Author.Tests.{eqb-false, eq-eqb, ne-eqb}
-use Rattle.basics.specs.Lists.{among}
-use Rattle.basics.proofs.Lists.{among-here, among-there}
+use Rattle.basics.specs.Lists.{among, All, AnyTwo}
+use Rattle.basics.proofs.Lists.{among-here, among-there, all-follow}
 use Rattle.site.specs.Map.{Site, inHalf, outHalf, radioOf, isOut}
 use Rattle.site.proofs.Steps.{in-is-not-out, out-is-out, radio-of-in, radio-of-out}
 use Rattle.tokens.specs.declared.Kind.{Kind}
@@ -16,20 +16,54 @@ use Rattle.tokens.specs.Rules.{Marks, message}
 use Rattle.tokens.specs.Run.{Entry, doneOver, heard, walked}
 use Rattle.menger.proofs.Trail.{follow}
 use Rattle.routes.proofs.Trails.{onward, trailOf, radiosOf, pathOf}
-use Rattle.rounds.proofs.Shows.{inRound, Due, dueAfter, Answered}
+use Rattle.rounds.proofs.Shows.{inRound, dueAfter, Answered}
 use Rattle.demands.proofs.Carried.{in-round-append, donesFrom, donesOf}
 
--- the messages of a round tell of no path: it sends no DONE
-pub round-silent : (site : Site) (round : ℕ) (log : List Message) (w : ℕ → ℕ → ℕ) → Answered log w → (later : List Entry) → walked site (inRound round log ++ later) ≡ walked site later
+-- ---- the messages before the DONEs
+
+-- none of these is a DONE
+abbrev pub NoDone : List Entry → Type 0
+NoDone log = All (λ (e : Entry). e .message .kind ≡ Done → ⊥) log
+
+-- a round sends no DONE
+pub round-no-done : (round : ℕ) (log : List Message) (w : ℕ → ℕ → ℕ) → Answered log w → NoDone (inRound round log)
+round-no-done round [] w answered = tt
+round-no-done round (m ∷ log) w answered = (λ (is : m .kind ≡ Done). rw is at (answered .0), round-no-done round log (dueAfter (m .kind) (m .from) (m .to) w) (answered .1))
+
+-- such messages tell of no path
+pub silent : (site : Site) (log : List Entry) → NoDone log → (later : List Entry) → walked site (log ++ later) ≡ walked site later
 unfolding walked
-round-silent site round [] w answered later = refl
-round-silent site round (m ∷ log) w answered later = go (m .kind) (answered .0) (round-silent site round log (dueAfter (m .kind) (m .from) (m .to) w) (answered .1) later)
+silent site [] none later = refl
+silent site (e ∷ log) none later = go (e .message .kind) (none .0) (silent site log (none .1) later)
   where
-    go : (kind : Kind) → Due kind (m .from) (m .to) w → walked site (inRound round log ++ later) ≡ walked site later → heard kind site (m .from) (m .to) (walked site (inRound round log ++ later)) ≡ walked site later
-    go Pdt due ih = ih
-    go PdtB due ih = ih
-    go Pmt due ih = ih
-    go Done due ih = absurd due
+    go : (kind : Kind) → (kind ≡ Done → ⊥) → walked site (log ++ later) ≡ walked site later → heard kind site (e .message .from) (e .message .to) (walked site (log ++ later)) ≡ walked site later
+    go Pdt other ih = ih
+    go PdtB other ih = ih
+    go Pmt other ih = ih
+    go Done other ih = absurd (other refl)
+
+-- after a DONE come only DONEs
+abbrev pub DonesLast : List Entry → Type 0
+DonesLast log = AnyTwo (λ (a b : Entry). a .message .kind ≡ Done → b .message .kind ≡ Done) log
+
+-- another message asks nothing of those after it
+no-done-first : (e : Entry) → (e .message .kind ≡ Done → ⊥) → (log : List Entry) → All (λ (b : Entry). e .message .kind ≡ Done → b .message .kind ≡ Done) log
+no-done-first e other [] = tt
+no-done-first e other (b ∷ log) = (λ is. absurd (other is), no-done-first e other log)
+
+all-in-round : (P : Message → Type 0) (round : ℕ) (log : List Message) → All P log → All (λ (e : Entry). P (e .message)) (inRound round log)
+all-in-round P round [] all = tt
+all-in-round P round (m ∷ log) all = (all .0, all-in-round P round log (all .1))
+
+pub dones-last : (log : List Entry) (round : ℕ) (dones : List Message) → NoDone log → All (λ (m : Message). m .kind ≡ Done) dones → DonesLast (log ++ inRound round dones)
+dones-last [] round [] none all = tt
+dones-last [] round (m ∷ dones) none all = (
+  all-in-round (λ b. m .kind ≡ Done → b .kind ≡ Done) round dones (all-follow (λ (b : Message). b .kind ≡ Done) _ (λ b is first. is) dones (all .1)),
+  dones-last [] round dones tt (all .1),
+)
+dones-last (e ∷ log) round dones none all = (no-done-first e (none .0) (log ++ inRound round dones), dones-last log round dones (none .1) all)
+
+-- ---- the DONEs
 
 -- the radios that DONE reaches from half h on
 unfoldable radiosFrom : Site → Marks → ℕ → ℕ → List ℕ

@@ -8,8 +8,10 @@ use native.Mathlib.Nat.{add-mul, mul-suc, mul-right-comm}
 use native.Mathlib.Omega.{arith}
 use native.Mathlib.Decide.{decLt}
 use lib.ListN.{length, length-append}
+use Rattle.basics.specs.Lists.{All}
 use Rattle.site.specs.Map.{Site, inHalf, outHalf, A}
 use Rattle.site.proofs.Valid.{Valid}
+use Rattle.tokens.specs.declared.Kind.the-variants.{Done}
 use Rattle.tokens.specs.declared.Message.{Message}
 use Rattle.tokens.specs.Rules.{Notes, State, won, carrying, over, onlyS, begun, justS, search, innerStep, start}
 use Rattle.tokens.specs.Run.{Entry, Walked, notesOf, runOn, runFrom, walked, pathsOf}
@@ -25,7 +27,7 @@ use Rattle.demands.proofs.Carried.{leads-on, in-round-length, donesOf, 
 use Rattle.demands.proofs.Few.{dones-few}
 use Rattle.demands.proofs.Opening.{opens, release-carries, no-more-won}
 use Rattle.demands.proofs.Rounds.{AllPlayed, all-played}
-use Rattle.demands.proofs.Told.{read-all}
+use Rattle.demands.proofs.Told.{DonesLast, silent, dones-last, read-all}
 use Rattle.demands.proofs.Tokens.{Orderly, then-dones}
 
 -- what a run that wants k paths comes to
@@ -43,6 +45,7 @@ pub record Ran (site : Site) (k : ℕ) : Type 0 where
   -- whenever a round has been won on the way, the marks are a flow of as many units as paths are found
   pub each-won : (opening : List Entry) (after : Notes) → Leads site k (start site) opening (won after) → Flow (networkOf site) (after .found) (after .marks)
   pub paths : pathsOf site log ≡ pathsFrom site (last .marks)
+  pub dones-last : DonesLast log
   pub orderly : Orderly site 1 log
   pub bound : length log ≤ (2 * last .round + 1) * A site
 
@@ -103,8 +106,9 @@ module _ {site : Site} (valid : Valid site) (k : ℕ) (wanted : 0 < k)
         flow = r .flow;
         outcome = r .outcome;
         each-won = λ opening after leads. wins opening after leads (decLt 0 (length opening)) (decLt (length (r .log)) (length opening));
-        paths = ap (λ (w : Walked). w .paths) (r .silent (inRound (r .last .round) dones) ∙ read);
-        orderly = then-dones site 1 (r .last .round) (r .log) dones later (r .orderly) (all-done site (r .last .marks) (starts site (r .last .marks)));
+        paths = ap (λ (w : Walked). w .paths) (silent site (r .log) (r .no-done) (inRound (r .last .round) dones) ∙ read);
+        dones-last = dones-last (r .log) (r .last .round) dones (r .no-done) done;
+        orderly = then-dones site 1 (r .last .round) (r .log) dones later (r .orderly) done;
         bound = omega (
           arith,
           length-append (r .log) (inRound (r .last .round) dones),
@@ -118,6 +122,9 @@ module _ {site : Site} (valid : Valid site) (k : ℕ) (wanted : 0 < k)
     where
       dones : List Message
       dones = donesOf site (r .last .marks) (starts site (r .last .marks))
+
+      done : All (λ (m : Message). m .kind ≡ Done) dones
+      done = all-done site (r .last .marks) (starts site (r .last .marks))
 
       arrived : ((starts site (r .last .marks) ≡ []) × (c .end ≡ r .end)) ⊎ ((v : ℕ) × (c .end ≡ carrying v (inHalf (site .T)) (r .last))) → (r .last .found ≡ 0) ⊎ ((v : ℕ) × (c .end ≡ carrying v (inHalf (site .T)) (r .last)))
       arrived (inl w) = inl (sym (starts-number valid (r .flow)) ∙ ap length (w .0))

@@ -11,7 +11,8 @@ use Rattle.site.specs.Map.{Site, outHalf, radioOf}
 use Rattle.tokens.specs.Run.{Entry, Walked, walked, pathsOf}
 use Rattle.outcome.specs.Leaves.{pathBytes}
 use Rattle.paths.specs.declared.Walk.{Walk}
-use Rattle.paths.specs.Listing.{LogOf, Arrives, Listable, PathsLeft, NextArrival, Walks, Startable, PathLeft}
+use Rattle.paths.specs.Listing.{LogOf, Arrives, Listable, PathsLeft, FirstDone, NextArrival, Walks, Startable, PathLeft}
+use Rattle.paths.proofs.Log.{done-goes-on, none-before}
 use Rattle.paths.proofs.Walking.{path-starts, path-goes-on}
 
 path-bytes-append : (paths others : List (List ℕ)) → pathBytes (paths ++ others) ≡ pathBytes paths ++ pathBytes others
@@ -27,6 +28,16 @@ one-path-bytes path = ap (λ (list : List ℕ). length path ∷ list) (append-ni
 all-middle {ℓ} : {A : Type ℓ} (P : A → Type 0) (front : List A) (x : A) (back : List A) → All P (front ++ x ∷ back) → P x
 all-middle P [] x back all = all .0
 all-middle P (y ∷ front) x back all = all-middle P front x back (all .1)
+
+-- no message before the first DONE reaches a radio, so the first that does is found from there on
+pub first-arrival : (log : List ℕ) (messages s : ℕ) (list : List ℕ) (first at : ℕ) → Listable log messages s list → FirstDone log messages first → NextArrival log first messages at → NextArrival log 0 messages at
+first-arrival log messages s list first at asked done arrival =
+    record {
+      after = omega arith;
+      within = arrival .within;
+      arrives = arrival .arrives;
+      passed = λ s′ site entries told. none-before log messages s′ site entries told (done-goes-on log messages s (asked .site) (asked .entries) (asked .told) (asked .dones-last)) first (done .within) (done .other) ∙ arrival .passed s′ site entries told;
+    }
 
 -- so many paths are listed in so many bytes, and those from message number `at` on are to come
 pub record Halfway (before list : List ℕ) (used count at : ℕ) (site : Site) (entries : List Entry) : Type 0 where

@@ -10,13 +10,14 @@ use lib.Dec.{eqb}
 use borrow.Author.Tests.{eq-eqb, ne-eqb}
 use lib.ListN.{length, getD, drop, length-take}
 use lib.Seq.{getD-take, getD-drop, drop-cons}
+use Rattle.basics.specs.Lists.{AnyTwo}
 use Rattle.site.specs.Map.{Site, outHalf, radioOf, isOut}
 use Rattle.tokens.specs.Rules.{message}
 use Rattle.tokens.specs.Run.{Entry, Walked, reaches, heard, walked}
 use Rattle.tokens.specs.declared.Kind.{Kind}
 use Rattle.tokens.specs.declared.Kind.the-variants.{Pdt, PdtB, Pmt, Done}
 use Rattle.outcome.specs.Leaves.{kindNumber, logBytes}
-use Rattle.paths.specs.Listing.{LogOf, Arrives}
+use Rattle.paths.specs.Listing.{LogOf, DonesLast, Arrives}
 
 -- ---- four bytes a message
 
@@ -76,15 +77,18 @@ module _ (log : List ℕ) (messages s : ℕ) (site : Site) (entries : List Entry
       let from : drop (4 * at) (logBytes entries) ≡ logBytes (getD entries at noEntry ∷ drop (at + 1) entries) = rw (log-from entries at (omega arith), add-one, drop-cons entries at noEntry below) refl in
       sym (getD-take (4 * messages) log (4 * at + k) 0 (omega arith)) ∙ rw (told .bytes, ← from) (sym (getD-drop (4 * at) (logBytes entries) k 0))
 
+  kind-at : (at : ℕ) → at < messages → getD log (4 * at) 0 ≡ kindNumber (getD entries at noEntry .message .kind)
+  unfolding logBytes
+  kind-at at l = ap (λ n. getD log n 0) (sym (add-zero (4 * at))) ∙ byte-at at 0 l (omega arith)
+
   said : (at : ℕ) → at < messages → Said log at site entries
   unfolding walked logBytes
   said at l =
       let e = getD entries at noEntry in
       let below : at < length entries = omega arith in
-      let kind : getD log (4 * at) 0 ≡ kindNumber (e .message .kind) = ap (λ n. getD log n 0) (sym (add-zero (4 * at))) ∙ byte-at at 0 l (omega arith) in
       let from : getD log (4 * at + 2) 0 ≡ e .message .from = byte-at at 2 l (omega arith) in
       let to : getD log (4 * at + 3) 0 ≡ e .message .to = byte-at at 3 l (omega arith) in
-      record { kind = e .message .kind; byte = sym kind; says = rw (from, to, add-one, drop-cons entries at noEntry below) refl }
+      record { kind = e .message .kind; byte = sym (kind-at at l); says = rw (from, to, add-one, drop-cons entries at noEntry below) refl }
 
 -- ---- in the words of the log's bytes
 
@@ -105,3 +109,35 @@ module _ (log : List ℕ) (messages s : ℕ) (site : Site) (entries : List Entry
       let sent : eqb (getD log (4 * at + 2) 0) (outHalf (site .S)) ≡ eqb (getD log (4 * at + 2) 0) (outHalf s) = rw (told .source) refl in
       m .says ∙ to-in-half (m .kind) site _ _ _ (m .byte ∙ is .done) (ne-eqb (getD log (4 * at + 3) 0 % 2) 1 (λ (odd : getD log (4 * at + 3) 0 % 2 ≡ 1). omega (arith, is .into)))
       ∙ ap (λ b. reaches b (radioOf (getD log (4 * at + 2) 0)) (radioOf (getD log (4 * at + 3) 0)) (walked site (drop (at + 1) entries))) sent
+
+-- ---- the DONEs that end the log
+
+is-done : (kind : Kind) → kindNumber kind ≡ 4 → kind ≡ Done
+is-done Pdt is = absurd (omega arith)
+is-done PdtB is = absurd (omega arith)
+is-done Pmt is = absurd (omega arith)
+is-done Done is = refl
+
+-- any two that stand next to each other are in the relation
+next-two : {A : Type 0} (R : A → A → Type 0) (list : List A) (i : ℕ) (other : A) → AnyTwo R list → suc i < length list → R (getD list i other) (getD list (suc i) other)
+next-two R [] i other two l = absurd (omega arith)
+next-two R (x ∷ []) i other two l = absurd (omega arith)
+next-two R (x ∷ y ∷ list) zero other two l = two .0 .0
+next-two R (x ∷ y ∷ list) (suc i) other two l = next-two R (y ∷ list) i other (two .1) (omega arith)
+
+-- a DONE is followed by DONEs
+abbrev DoneGoesOn : List ℕ → ℕ → Type 0
+DoneGoesOn log messages = (at : ℕ) → suc at < messages → getD log (4 * at) 0 ≡ 4 → getD log (4 * suc at) 0 ≡ 4
+
+module _ (log : List ℕ) (messages s : ℕ) (site : Site) (entries : List Entry) (told : LogOf log messages s site entries) where
+  pub done-goes-on : DonesLast entries → DoneGoesOn log messages
+  done-goes-on last at l is =
+      let done : getD entries at noEntry .message .kind ≡ Done = is-done _ (sym (kind-at log messages s site entries told at (omega arith)) ∙ is) in
+      kind-at log messages s site entries told (suc at) l ∙ ap kindNumber (next-two _ entries at noEntry last (omega (arith, told .number)) done)
+
+  -- so nothing is said of paths before a message that follows none
+  pub none-before : DoneGoesOn log messages → (r : ℕ) → r ≤ messages → ((at : ℕ) → at + 1 ≡ r → getD log (4 * at) 0 ≡ 4 → ⊥) → walked site entries ≡ walked site (drop r entries)
+  none-before on zero l other = refl
+  none-before on (suc r) l other =
+      none-before on r (omega arith) (λ at e is. other r (omega arith) (ap (λ (j : ℕ). getD log (4 * j) 0) (omega arith) ∙ on at (omega arith) is))
+      ∙ rw add-one at (no-done log messages s site entries told r (omega arith) (other r (omega arith)))

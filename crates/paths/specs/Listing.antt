@@ -3,7 +3,7 @@ use mathlib.Core.Path.{_≡_}
 use mathlib.Core.List.{List, _∷_, _++_}
 use Prim.Native.Nat.{ℕ, suc, _+_, _*_, _%_, _≤_, _<_}
 use lib.ListN.{length, getD, take, drop}
-use Rattle.basics.specs.Lists.{All}
+use Rattle.basics.specs.Lists.{All, AnyTwo}
 use Rattle.site.specs.Limits.{mostRadios}
 use Rattle.site.specs.Map.{Site, outHalf}
 use Rattle.tokens.specs.declared.Kind.the-variants.{Done}
@@ -20,12 +20,17 @@ pub record LogOf (log : List ℕ) (messages s : ℕ) (site : Site) (entries : Li
   pub number : length entries ≡ messages
   pub bytes : take (4 * messages) log ≡ logBytes entries
 
--- what the writer of the path list asks: some messages whose bytes these are, with room for their paths, each of whose lengths fits a byte
+-- after a DONE come only DONEs
+abbrev pub DonesLast : List Entry → Type 0
+DonesLast entries = AnyTwo (λ (a b : Entry). a .message .kind ≡ Done → b .message .kind ≡ Done) entries
+
+-- what the writer of the path list asks: some messages whose bytes these are, DONEs last, with room for their paths, each of whose lengths fits a byte
 pub record Listable (log : List ℕ) (messages s : ℕ) (list : List ℕ) : Type 0 where
   pub source : s < mostRadios
   pub site : Site
   pub entries : List Entry
   pub told : LogOf log messages s site entries
+  pub dones-last : DonesLast entries
   pub few : All (λ path. length path ≤ mostRadios) (pathsOf site entries)
   pub room : length (pathBytes (pathsOf site entries)) ≤ length list
 
@@ -36,6 +41,12 @@ pub record PathsLeft (site : Site) (entries : List Entry) (before after : List �
   pub written : after ≡ pathBytes (pathsOf site entries) ++ drop (listed .used) before
 
 -- ---- within the crate: one path of the path list
+
+-- r is the first of the DONEs that end the log, or the number of messages
+pub record FirstDone (log : List ℕ) (messages r : ℕ) : Type 0 where
+  pub within : r ≤ messages
+  pub done : (at : ℕ) → r ≤ at → at < messages → getD log (4 * at) 0 ≡ kindNumber Done
+  pub other : (at : ℕ) → at + 1 ≡ r → getD log (4 * at) 0 ≡ kindNumber Done → ⊥
 
 -- message number `at` is a DONE to an in half: it reaches a radio
 pub record Arrives (log : List ℕ) (at : ℕ) : Type 0 where

@@ -4,7 +4,7 @@ ghost use Prim.Native.Nat.{_*_, _≤_};
 ghost use lib.ListN.{length};
 ghost use Rattle.site.specs.Map.{Site};
 ghost use Rattle.tokens.specs.Run.{Entry};
-ghost use Rattle.paths.specs.Listing.{LogOf, Listable, PathsLeft, NextArrival, Startable, WalkEnded};
+ghost use Rattle.paths.specs.Listing.{LogOf, Listable, PathsLeft, FirstDone, NextArrival, Startable, WalkEnded};
 
 // The log takes so many bytes a message: kind, round, sending half, receiving half.
 const MESSAGE_BYTES: usize = 4;
@@ -27,6 +27,19 @@ struct Walk {
 pub struct Listed {
     pub used: usize,
     pub paths: usize,
+}
+
+// The first of the DONEs that end the log; the number of messages where the last is none. They are few, so it is sought
+// from the end.
+fn first_done(log: &[u8], messages: usize) -> usize
+    requires { ⌜ 4 * messages ≤ length (now log) ⌝ }
+    ensures { λ r. ⌜ FirstDone (now (log .entry)) messages r ⌝ }
+{
+    let mut at = messages;
+    while at > 0 && log[MESSAGE_BYTES * (at - 1)] == DONE {
+        at -= 1;
+    }
+    at
 }
 
 // The first message from this number on that is a DONE to an in half; the number of messages where there is none.
@@ -75,7 +88,8 @@ pub fn write_paths(log: &[u8], messages: usize, s: usize, paths: &mut [u8]) -> L
 {
     let mut used = 0;
     let mut count = 0;
-    let mut at = next_arrival(log, 0, messages);
+    // All DONEs stand at the log's end.
+    let mut at = next_arrival(log, first_done(log, messages), messages);
     while at < messages {
         // Before S sends its first DONE no path is under way.
         if log[MESSAGE_BYTES * at + SENDING_HALF] as usize != 2 * s + 1 {

@@ -17,7 +17,7 @@ use Rattle.site.proofs.Valid.{Valid, Room, accepted-valid, accepted-room}
 use Rattle.tokens.specs.Rules.{start}
 use Rattle.tokens.specs.Run.{notesOf, runFrom, cutOf}
 use Rattle.outcome.specs.Leaves.{runOf, pathsFound, logBytes, pathBytes, zerosAfter, outcome}
-use Rattle.demands.proofs.Demands.{log-bytes, any-budget, at-most, demand-2, demand-3, numbers-left, log-left, paths-left, cut-left, paths-of-the-map}
+use Rattle.demands.proofs.Demands.{log-bytes, any-budget, at-most, demand-2, demand-3, numbers-left, log-left, paths-left, cut-left, paths-of-the-map, log-ends-with-dones}
 use Rattle.routes.proofs.Duality.{path-below, path-few}
 use Rattle.machine.specs.declared.Task.{Task}
 use Rattle.machine.specs.View.{enteredOf}
@@ -110,6 +110,7 @@ module _ {task : Task} {links log paths cut : List ℕ} (given : Given task link
           site = site;
           entries = runOf call .log;
           told = log-of;
+          dones-last = log-ends-with-dones call (given .accepted);
           few = short (pathsFound call) (paths-of-the-map call (given .accepted));
           room = omega (arith, demand-3 call (given .accepted) .paths-fit, given .paths-lent);
         }

@@ -9,7 +9,7 @@ use Rattle.site.specs.Map.{Site}
 use Rattle.tokens.specs.Run.{Entry}
 use Rattle.paths.specs.Listing.{LogOf, Arrives, Startable}
 use Rattle.paths.proofs.Log.{log-room}
-use Rattle.paths.proofs.AllPaths.{Halfway, none-listed, walks-here, none-starts, can-start, one-more-path, all-listed}
+use Rattle.paths.proofs.AllPaths.{first-arrival, Halfway, none-listed, walks-here, none-starts, can-start, one-more-path, all-listed}
 use Rattle.paths.proofs.Tail.{tail-lent, tail-back}
 use Rattle.paths.proofs.write_paths.Statement.{statement}
 use Rattle.paths.proofs.write_paths.Tie as tie
@@ -26,17 +26,21 @@ Inv-loop log messages s paths₀ used₀ count₀ at₀ paths used count at =
 abbrev μ-loop : tie.MeasureT-loop
 μ-loop log messages s paths₀ used₀ count₀ at₀ paths used count at = messages - at
 
+first-done-requires : tie.Need-first-done-requires Inv-loop μ-loop
+first-done-requires c κs = log-room _ _ _ _ _ (c .before .before .pre .told)
+
 next-arrival-requires : tie.Need-next-arrival-requires Inv-loop μ-loop
-next-arrival-requires c κs = (omega arith, log-room _ _ _ _ _ (c .before .before .pre .told))
+next-arrival-requires c κs = (c .first-done .ensures .within, log-room _ _ _ _ _ (c .before .before .before .pre .told))
 
 loop-holds : tie.Need-loop-holds Inv-loop μ-loop
 loop-holds c = (
-  log-room _ _ _ _ _ (c .before .before .before .pre .told),
+  log-room _ _ _ _ _ (c .before .before .before .before .pre .told),
   omega arith,
   c .next-arrival .ensures .within,
   refl,
   c .next-arrival .ensures .arrives,
-  λ site entries told. none-listed _ _ _ site entries told (c .before .before .before .args .paths .now) (c .next-arrival .result) (c .next-arrival .ensures),
+  λ site entries told. none-listed _ _ _ site entries told (c .before .before .before .before .args .paths .now) (c .next-arrival .result)
+      (first-arrival _ _ _ _ _ _ (c .before .before .before .before .pre) (c .before .first-done .ensures) (c .next-arrival .ensures)),
 )
 
 mul-if1 : tie.Need-mul-if1 Inv-loop μ-loop
@@ -68,7 +72,7 @@ loop-less c = omega arith
 
 loop-again : tie.Need-loop-again Inv-loop μ-loop
 loop-again c =
-    let at = c .before .before .before .before .before .before .before .before .args in
+    let at = c .before .before .before .before .before .before .before .before .before .args in
     let l = c .before .before .before .before .loop in
     let below : l .at < at .messages = c .before .before .before .loop-test .taken in (
       l .inv .0,
@@ -81,9 +85,9 @@ loop-again c =
     )
 
 -- a path starts here, and the rest of the list has room for it
-ready : (c : tie.Else1 Inv-loop μ-loop) → Startable (c .before .before .before .before .before .before .before .args .log .now) (c .before .before .before .loop .at) (c .before .before .before .before .before .before .before .args .messages) (c .before .before .before .before .before .before .before .args .s) (drop (c .before .before .before .loop .used) (c .before .before .before .loop .paths))
+ready : (c : tie.Else1 Inv-loop μ-loop) → Startable (c .before .before .before .before .before .before .before .before .args .log .now) (c .before .before .before .loop .at) (c .before .before .before .before .before .before .before .before .args .messages) (c .before .before .before .before .before .before .before .before .args .s) (drop (c .before .before .before .loop .used) (c .before .before .before .loop .paths))
 ready c =
-    let p = c .before .before .before .before .before .before .before .pre in
+    let p = c .before .before .before .before .before .before .before .before .pre in
     let l = c .before .before .before .loop in
     let below = c .before .before .loop-test .taken in
     can-start _ _ _ _ (l .paths) (l .used) (l .count) (l .at) p (l .inv .5 (p .site) (p .entries) (p .told)) (l .inv .3) below (l .inv .4 below) (c .if1 .left)
@@ -116,7 +120,7 @@ loop-less-2 c = omega arith
 
 loop-again-2 : tie.Need-loop-again-2 Inv-loop μ-loop
 loop-again-2 c =
-    let at = c .before .before .before .before .before .before .before .before .before .before .before .before .args in
+    let at = c .before .before .before .before .before .before .before .before .before .before .before .before .before .args in
     let l = c .before .before .before .before .before .before .before .before .loop in
     let w = c .before .before .before .write-path in
     let below = c .before .before .before .before .before .before .before .loop-test .taken in (
@@ -136,7 +140,7 @@ same-length : tie.Need-same-length Inv-loop μ-loop
 same-length c = c .before .loop .inv .3
 
 returns : tie.Need-returns Inv-loop μ-loop
-returns c = λ site entries told. all-listed (c .before .before .before .before .before .args .log .now) _ _ site entries told (c .before .before .before .before .before .args .paths .now) (c .before .loop .paths) (c .before .loop .used) (c .before .loop .count) (c .before .loop .at) (c .loop-test .left) (c .before .loop .inv .5 site entries told)
+returns c = λ site entries told. all-listed (c .before .before .before .before .before .before .args .log .now) _ _ site entries told (c .before .before .before .before .before .before .args .paths .now) (c .before .loop .paths) (c .before .loop .used) (c .before .loop .count) (c .before .loop .at) (c .loop-test .left) (c .before .loop .inv .5 site entries told)
 
 pub write-paths-spec : {M : Type 1} → statement M
 write-paths-spec =
@@ -144,6 +148,7 @@ write-paths-spec =
     (tie.spec
     Inv-loop
     μ-loop
+    first-done-requires
     next-arrival-requires
     loop-holds
     mul-if1

@@ -1,0 +1,8 @@
+pub mod Places
+pub mod Tables
+pub mod AnyOrder
+pub mod Decimals
+pub mod ReadBack
+pub mod MapBack
+pub mod Lengths
+pub mod Sheets

@@ -1,0 +1,3 @@
+pub mod Writing
+pub mod Example
+pub mod Reading
