@@ -1,5 +1,5 @@
 -- The laws of tests: true and false, and, or; and the facts that tests tell. Assumes nothing.
-use mathlib.Core.Path.{_≡_, refl}
+use mathlib.Core.Path.{_≡_, refl, sym}
 use mathlib.Core.Bool.{Bool, true, false, not, _||_, _&&_, true≢false, false≢true}
 use mathlib.Core.Logic.{_⊎_, inl, inr, _↔_}
 use Prim.Native.Nat.{ℕ, _≤_, _<_}
@@ -15,6 +15,12 @@ clash {b = false} p q = absurd (false≢true p)
 pub not-true→false : (b : Bool) → (b ≡ true → ⊥) → b ≡ false
 not-true→false true h = absurd (h refl)
 not-true→false false h = refl
+
+-- each where the other is, the same
+pub both-ways : (a b : Bool) → (a ≡ true → b ≡ true) → (b ≡ true → a ≡ true) → a ≡ b
+both-ways true b there back = sym (there refl)
+both-ways false true there back = back refl
+both-ways false false there back = refl
 
 pub or-left : (a b : Bool) → a ≡ true → (a || b) ≡ true
 or-left true b h = refl

@@ -118,6 +118,15 @@ first-of test i (suc f) limit e = go (test i) refl (first-of test (suc i) f limi
 pub first-from : (test : ℕ → Bool) (i limit : ℕ) → i ≤ limit → First test i limit (firstFrom test i limit)
 first-from test i limit p = first-of test i (limit - i) limit (omega arith)
 
+-- the first that passes is one number
+pub first-is : (test : ℕ → Bool) (i limit r : ℕ) → i ≤ limit → First test i limit r → firstFrom test i limit ≡ r
+first-is test i limit r from w = pick (decLt (firstFrom test i limit) r) (decLt r (firstFrom test i limit)) (first-from test i limit from)
+  where
+    pick : Dec (firstFrom test i limit < r) → Dec (r < firstFrom test i limit) → First test i limit (firstFrom test i limit) → firstFrom test i limit ≡ r
+    pick (yes p) q f = clash (f .found (omega (arith, w .within))) (w .before _ (f .from) p)
+    pick (no p) (yes q) f = clash (w .found (omega (arith, f .within))) (f .before r (w .from) q)
+    pick (no p) (no q) f = omega arith
+
 -- ---- sums and counts compared
 
 -- no more at each place, no more in all

@@ -1,6 +1,6 @@
 -- The cells of a table: what a good one says, where it stands in row order, and what it says of the links. Assumes nothing.
 use mathlib.Core.Path.{_≡_, refl, sym, ap, ap₂, _∙_}
-use mathlib.Core.Bool.{Bool, true, false, not, _&&_, _||_}
+use mathlib.Core.Bool.{Bool, true, false, not, _&&_, _||_, and-false}
 use mathlib.Core.List.{List}
 use Prim.Native.Nat.{ℕ, _+_, _*_, _≤_, _<_}
 use native.Mathlib.Decide.{ℕ-discrete, decLt}
@@ -9,6 +9,7 @@ use native.Mathlib.Omega.{arith}
 use lib.Dec.{eqb, ltb}
 use lib.ListN.{getD}
 use borrow.Author.Tests.{eq-eqb, ne-eqb, eqb-true, lt-ltb, le-ltb, ltb-false, not-false}
+use Rattle.radios.specs.Bytes.{isOne}
 use Rattle.site.specs.Map.{linked}
 use Rattle.site.specs.Refusals.{bad, badAt, badCell}
 
@@ -20,10 +21,10 @@ neither-holds {a = true} {b} e = absurd (let z : _≡_ {A = ℕ} 0 1 = cc in ome
 neither-holds {a = false} {b} e = (refl, e)
 
 -- what is known of a cell that is not bad
-record Good (i j cell mirror : ℕ) : Type 0 where
-  bit : cell ≤ 1
-  off : i ≡ j → cell ≡ 0
-  even : cell ≡ mirror
+pub record Good (i j cell mirror : ℕ) : Type 0 where
+  pub bit : cell ≤ 1
+  pub off : i ≡ j → cell ≡ 0
+  pub even : cell ≡ mirror
 
 good : (i j cell mirror : ℕ) → bad i j cell mirror ≡ false → Good i j cell mirror
 unfolding bad
@@ -36,7 +37,7 @@ good i j cell mirror e =
       even = eqb-true cell mirror (not-false (eqb cell mirror) (two .1));
     }
 
-not-bad : (i j cell mirror : ℕ) → Good i j cell mirror → bad i j cell mirror ≡ false
+pub not-bad : (i j cell mirror : ℕ) → Good i j cell mirror → bad i j cell mirror ≡ false
 unfolding bad
 not-bad i j cell mirror g = simp (le-ltb 1 cell (g .bit), eq-eqb cell mirror (g .even)) (pick (ℕ-discrete i j))
   where
@@ -65,12 +66,15 @@ linked-good table n i j hi hj e = simp (lt-ltb i n hi, lt-ltb j n hj) (pick (ℕ
         simp (eq-eqb i j q, z)
     pick (no d) = simp (ne-eqb i j d)
 
--- and so is its mirror cell
-pub linked-mirror : (table : List ℕ) (n i j : ℕ) → i < n → j < n → badAt table n i j ≡ false → linked table n j i ≡ eqb (getD table (i * n + j) 0) 1
-unfolding badAt
-linked-mirror table n i j hi hj e =
-    linked-good table n j i hj hi (good-mirror table n i j e)
-    ∙ ap (λ (x : ℕ). eqb x 1) (sym (good i j (getD table (i * n + j) 0) (getD table (j * n + i) 0) e .even))
+-- two radios are linked where their cell is 1
+pub linked-apart : (table : List ℕ) (n i j : ℕ) → i < n → j < n → (i ≡ j → ⊥) → linked table n i j ≡ isOne table (i * n + j)
+unfolding linked
+linked-apart table n i j hi hj d = simp (lt-ltb i n hi, lt-ltb j n hj, ne-eqb i j d)
+
+-- no radio is linked to itself
+pub linked-itself : (table : List ℕ) (n i j : ℕ) → i ≡ j → linked table n i j ≡ false
+unfolding linked
+linked-itself table n i j e = simp (eq-eqb i j e, and-false)
 
 -- no radio outside the map has a link
 pub linked-outside : (table : List ℕ) (n u v : ℕ) → (u < n → v < n → ⊥) → linked table n u v ≡ false

@@ -1,6 +1,9 @@
 pub mod Rows
 pub mod Cells
+pub mod Gathering
+pub mod Agreeing
 pub mod Spreading
 pub mod Scan
+pub mod Mirrored
 pub mod Sizes
 pub mod Verdicts

@@ -19,6 +19,12 @@ pub record Spreading (i row : ℕ) (rows now : List ℕ) (v : ℕ) : Type 0 wher
   pub next : v < 64 → member v row ≡ true
   pub holds : (a b : ℕ) → member b (getD now a 0) ≡ ((eqb b i && (ltb a v && member a row)) || member b (getD rows a 0))
 
+pub swap : (p q z : Bool) → (p || (q || z)) ≡ (q || (p || z))
+swap true true z = refl
+swap true false z = refl
+swap false true z = refl
+swap false false z = refl
+
 module _ (i row : ℕ) (rows : List ℕ) where
   -- none of the set is between two that follow each other
   none-between : (from v : ℕ) → First (λ j. member j row) from 64 v → (a : ℕ) → from ≤ a → (ltb a v && member a row) ≡ false
@@ -63,9 +69,3 @@ module _ (i row : ℕ) (rows : List ℕ) where
       pick : Dec (a < v) → (ltb a v && member a row) ≡ member a row
       pick (yes p) = simp (lt-ltb a v p)
       pick (no p) = simp (le-ltb a v (omega arith)) (sym (member-high 64 a row fits (omega arith)))
-
-      swap : (p q z : Bool) → (p || (q || z)) ≡ (q || (p || z))
-      swap true true z = refl
-      swap true false z = refl
-      swap false true z = refl
-      swap false false z = refl

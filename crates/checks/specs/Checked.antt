@@ -1,6 +1,7 @@
 -- What the contracts of this crate say of the rows of links, and of what the checks leave.
 use mathlib.Core.Path.{_≡_}
-use mathlib.Core.Bool.{Bool, _&&_, _||_}
+use mathlib.Core.Bool.{Bool, true, _&&_, _||_}
+use mathlib.Core.Logic.{_↔_}
 use mathlib.Core.List.{List}
 use Prim.Native.Nat.{ℕ, _+_, _*_, _≤_, _<_}
 use lib.Dec.{eqb}
@@ -15,6 +16,10 @@ use Rattle.site.specs.declared.Finding.the-variants.{Sound}
 use Rattle.site.specs.declared.Verdict.{Verdict}
 use Rattle.site.specs.declared.Verdict.the-variants.{Accepted}
 
+-- two sets have the same radios up to i
+abbrev pub AgreeTo : ℕ → ℕ → ℕ → Type 0
+AgreeTo x y i = (j : ℕ) → j ≤ i → member j x ≡ member j y
+
 -- row u is the set of the radios that u is linked to
 abbrev pub Filled : List ℕ → ℕ → List ℕ → Type 0
 Filled table n rows = (u v : ℕ) → member v (getD rows u 0) ≡ linked table n u v
@@ -26,6 +31,11 @@ size rows u = count (λ v. member v (getD rows u 0)) mostRadios
 -- is v a neighbour of u in the rows, once radio i and those of a set have become neighbours?
 abbrev pub joined : ℕ → ℕ → List ℕ → ℕ → ℕ → Bool
 joined i set rows u v = (eqb u i && member v set) || ((eqb v i && member u set) || member v (getD rows u 0))
+
+-- the answer whether a table is sound, and the rows that it leaves where it is
+pub record Gathered (table : List ℕ) (n : ℕ) (rows : List ℕ) (sound : Bool) : Type 0 where
+  pub told : sound ≡ true ↔ finding table n ≡ Sound
+  pub filled : sound ≡ true → Filled table n rows
 
 -- what the check of a table finds, and the rows that it leaves where it finds no fault
 pub record Checked (table : List ℕ) (n : ℕ) (rows : List ℕ) (found : Finding) : Type 0 where

@@ -1,14 +1,16 @@
 // The checks before a run: the table with its links as sets of radios, the number of steps, and refusals 1 to 8.
 ghost use mathlib.Core.Path.{_≡_};
-ghost use mathlib.Core.Bool.{_&&_, _||_};
-ghost use Prim.Native.Nat.{ℕ, _+_, _*_, _≤_, _<_};
-ghost use lib.Dec.{eqb};
+ghost use mathlib.Core.Bool.{true, _&&_, _||_};
+ghost use mathlib.Core.Logic.{_↔_};
+ghost use Prim.Native.Nat.{ℕ, _+_, _*_, _/_, _≤_, _<_, max};
+ghost use lib.Dec.{eqb, ltb};
 ghost use lib.ListN.{length, getD};
 ghost use Rattle.basics.specs.Counting.{oneIf, sum};
+ghost use Rattle.radios.specs.Bytes.{Bits, isOne};
 ghost use Rattle.radios.specs.Member.{member};
 ghost use Rattle.site.specs.Limits.{mostRadios};
-ghost use Rattle.site.specs.Refusals.{bad, callOf};
-ghost use Rattle.checks.specs.Checked.{joined, size, Checked, Countable, Judged};
+ghost use Rattle.site.specs.Refusals.{bad, finding, callOf};
+ghost use Rattle.checks.specs.Checked.{AgreeTo, joined, size, Gathered, Checked, Countable, Judged};
 use site::Finding;
 use site::Verdict;
 
@@ -17,6 +19,9 @@ const MOST_RADIOS: usize = 64;
 
 // So many links keep the log of any run below 40,000 bytes.
 const MOST_LINKS: usize = 256;
+
+// So many cells of a row are read at once.
+const AT_ONCE: usize = 8;
 
 // No sheet promises more paths than this.
 const MOST_PATHS: usize = 8;
@@ -93,17 +98,97 @@ fn spread(rows: &mut [u64; 64], i: usize, row: u64)
     }
 }
 
-// The first bad cell in row order, where there is one; where there is none, the rows are the table's links.
-// It is never below the diagonal, where its mirror cell comes first, so a row is scanned from the diagonal on. The
-// neighbours found in a row are gathered in one number before they are stored.
-pub fn check_table(table: &[u8], n: usize, rows: &mut [u64; 64]) -> Finding
-    requires { ⌜ (n ≤ mostRadios) × (length (now table) ≡ n * n) ⌝ }
-    ensures { λ r. ⌜ Checked (now (table .entry)) n (now (rows .exit)) r ⌝ }
+// The larger of two cells.
+fn larger(a: u8, b: u8) -> u8
+    ensures { λ r. ⌜ r ≡ max a b ⌝ }
 {
+    if a < b {
+        return b;
+    }
+    a
+}
+
+// Is every cell 0 or 1? No early end: a plain pass over all cells takes many of them at a time.
+fn all_bits(table: &[u8]) -> bool
+    ensures { λ r. ⌜ (r ≡ true) ↔ Bits (now (table .entry)) ⌝ }
+{
+    let mut largest = 0;
+    for at in 0..table.len() {
+        largest = larger(largest, table[at]);
+    }
+    largest <= 1
+}
+
+// The first n cells from the start as a set, eight at a time: those that fill no eight are left out.
+fn eights(table: &[u8], start: usize, n: usize) -> u64
+    requires { ⌜ Bits (now table) ⌝ }
+    requires { ⌜ n ≤ mostRadios ⌝ }
+    requires { ⌜ start + n ≤ length (now table) ⌝ }
+    ensures { λ r. ⌜ ((j : ℕ) → member j r ≡ (ltb j (8 * (n / 8)) && isOne (now (table .entry)) (start + j))) ⌝ }
+{
+    let mut row = 0;
+    for k in 0..n / AT_ONCE {
+        row = radios::both(
+            radios::raised(radios::of_eight(table, start + AT_ONCE * k), AT_ONCE * k),
+            row,
+        );
+    }
+    row
+}
+
+// Row i of the table as a set.
+fn row_of(table: &[u8], n: usize, i: usize) -> u64
+    requires { ⌜ Bits (now table) ⌝ }
+    requires { ⌜ (n ≤ mostRadios) × (length (now table) ≡ n * n) ⌝ }
+    requires { ⌜ i < n ⌝ }
+    ensures { λ r. ⌜ ((j : ℕ) → member j r ≡ (ltb j n && isOne (now (table .entry)) (i * n + j))) ⌝ }
+{
+    let start = place(n, i, 0);
+    let mut row = eights(table, start, n);
+    for j in AT_ONCE * (n / AT_ONCE)..n {
+        row = with_where(row, j, table[start + j]);
+    }
+    row
+}
+
+// Do two sets have the same radios up to i?
+fn agree_to(x: u64, y: u64, i: usize) -> bool
+    requires { ⌜ i < mostRadios ⌝ }
+    ensures { λ r. ⌜ (r ≡ true) ↔ AgreeTo x y i ⌝ }
+{
+    radios::first_from(radios::and_not(x, y), 0) > i
+        && radios::first_from(radios::and_not(y, x), 0) > i
+}
+
+// Is the table sound? Then the rows are its links. The rows before row i have told radio i of its neighbours before it:
+// up to the diagonal row i must say the same, and those after i are told of it.
+fn gather(table: &[u8], n: usize, rows: &mut [u64; 64]) -> bool
+    requires { ⌜ (n ≤ mostRadios) × (length (now table) ≡ n * n) ⌝ }
+    ensures { λ r. ⌜ Gathered (now (table .entry)) n (now (rows .exit)) r ⌝ }
+{
+    if !all_bits(table) {
+        return false;
+    }
     clear(rows);
+    for i in 0..n {
+        let row = row_of(table, n, i);
+        let told = rows[i];
+        if !agree_to(row, told, i) {
+            return false;
+        }
+        spread(rows, i, radios::and_not(row, told));
+    }
+    true
+}
+
+// The first bad cell in row order, where there is one. It is never below the diagonal, where its mirror cell comes first,
+// so a row is scanned from the diagonal on.
+fn first_bad(table: &[u8], n: usize) -> Finding
+    requires { ⌜ (n ≤ mostRadios) × (length (now table) ≡ n * n) ⌝ }
+    ensures { λ r. ⌜ r ≡ finding (now (table .entry)) n ⌝ }
+{
     let mut found = Finding::Sound;
     'rows: for i in 0..n {
-        let mut row = 0;
         for j in i..n {
             let at = place(n, i, j);
             let mirror = place(n, j, i);
@@ -111,11 +196,21 @@ pub fn check_table(table: &[u8], n: usize, rows: &mut [u64; 64]) -> Finding
                 found = Finding::Bad(at);
                 break 'rows;
             }
-            row = with_where(row, j, table[at]);
         }
-        spread(rows, i, row);
     }
     found
+}
+
+// The first bad cell in row order, where there is one; where there is none, the rows are the table's links. A sound table
+// is told so by its rows, many cells at a time: only a bad one is scanned cell by cell.
+pub fn check_table(table: &[u8], n: usize, rows: &mut [u64; 64]) -> Finding
+    requires { ⌜ (n ≤ mostRadios) × (length (now table) ≡ n * n) ⌝ }
+    ensures { λ r. ⌜ Checked (now (table .entry)) n (now (rows .exit)) r ⌝ }
+{
+    if gather(table, n, rows) {
+        return Finding::Sound;
+    }
+    first_bad(table, n)
 }
 
 // The sizes of the first n rows together: each link is counted at both its radios.

@@ -5,18 +5,8 @@ use Prim.Native.Nat.{ℕ, _+_, _≤_, _<_}
 use native.Mathlib.Decide.{decLt}
 use native.Mathlib.Omega.{arith}
 use Rattle.basics.specs.Counting.{First, firstFrom}
-use Rattle.basics.proofs.Bools.{clash}
-use Rattle.basics.proofs.Counting.{first-from}
+use Rattle.basics.proofs.Counting.{first-is}
 use Rattle.radios.specs.Member.{member}
-
--- the first that passes is one number
-pub first-is : (test : ℕ → Bool) (i limit r : ℕ) → i ≤ limit → First test i limit r → firstFrom test i limit ≡ r
-first-is test i limit r from w = pick (decLt (firstFrom test i limit) r) (decLt r (firstFrom test i limit)) (first-from test i limit from)
-  where
-    pick : Dec (firstFrom test i limit < r) → Dec (r < firstFrom test i limit) → First test i limit (firstFrom test i limit) → firstFrom test i limit ≡ r
-    pick (yes p) q f = clash (f .found (omega (arith, w .within))) (w .before _ (f .from) p)
-    pick (no p) (yes q) f = clash (w .found (omega (arith, f .within))) (f .before r (w .from) q)
-    pick (no p) (no q) f = omega arith
 
 -- r is the first member of the set from i on, and the test is the set's below n
 module _ (test : ℕ → Bool) (set n i r : ℕ) (small : n ≤ 64) (start : i ≤ n) (f : First (λ j. member j set) i 64 r) (same : (j : ℕ) → j < n → test j ≡ member j set) where

@@ -9,12 +9,13 @@ use lib.Dec.{eqb}
 use lib.ListN.{getD}
 use borrow.Author.Tests.{eq-eqb, ne-eqb, lt-ltb, le-ltb}
 use Rattle.basics.specs.Counting.{First}
+use Rattle.basics.proofs.Counting.{first-is}
 use Rattle.radios.specs.Member.{member}
 use Rattle.site.specs.Map.{Site, linked, link, inHalf, outHalf, radioOf, passes, step}
 use Rattle.site.proofs.Steps.{in-is-not-out, out-is-out, radio-of-in, radio-of-out, step-inside, step-over, step-link, none-into-S, inside-step}
 use Rattle.tokens.specs.Rules.{Marks, mayWalk, candidate, canTry, nextPlace, nextMarked}
 use Rattle.marks.specs.Rows.{marksOf, Half, Held}
-use Rattle.marks.proofs.First.{first-is, first-member, first-none, first-own, first-past}
+use Rattle.marks.proofs.First.{first-member, first-none, first-own, first-past}
 
 -- ---- marks, half by half
 

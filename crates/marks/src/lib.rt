@@ -85,7 +85,7 @@ fn next_from_out(
 }
 
 // The next place of radio v's in half: back over a marked step from another radio, or over the unmarked step inside v.
-fn next_from_in(
+pub fn next_from_in(
     n: usize,
     t: usize,
     marks: &[u64; 64],

@@ -6,10 +6,11 @@ use native.Mathlib.Nat.{pow-suc, mod-lt, div-one, zero-div, div-eq-of-lt, lt-of-
 use native.Mathlib.Numerals.{one-add}
 use native.Mathlib.Decide.{decLt}
 use native.Mathlib.Omega.{arith}
-use lib.Dec.{eqb, eqb·zero-suc, eqb·suc-zero, eqb·suc-suc, lit<}
+use lib.Dec.{eqb, leb, eqb·zero-suc, eqb·suc-zero, eqb·suc-suc, lit<}
 use lib.Arith.{digits-mod}
-use lib.Pow.{pow-mono, shr-shr, shl-exact}
+use lib.Pow.{pow-mono, shr-shr, shl-shr, shl-exact}
 use lib.Bits.{bitAnd, bitOr, and-step, or-step, and-shr, or-shr, shifted-half, shifted-even}
+use borrow.Author.Tests.{le-leb, lt-leb}
 use Rattle.radios.specs.Member.{member}
 
 -- ---- one digit
@@ -69,7 +70,7 @@ digitwise op f g shr step digit test i a b =
     ap (λ (n : ℕ). eqb (n % 2) 1) (shr a b i ∙ step p q) ∙ ap (λ (n : ℕ). eqb n 1) (digits-mod (op (p / 2) (q / 2)) (digit p q)) ∙ test p q
 
 -- what is in both
-member-and : (i a b : ℕ) → member i (bitAnd a b) ≡ (member i a && member i b)
+pub member-and : (i a b : ℕ) → member i (bitAnd a b) ≡ (member i a && member i b)
 member-and =
     digitwise bitAnd min _&&_ and-shr and-step (λ a b. omega arith)
     (by-two-digits (λ d e. eqb (min d e) 1 ≡ (eqb d 1 && eqb e 1)) refl refl refl refl)
@@ -110,12 +111,27 @@ member-and-not k i x y hx hy = member-and i x ((2 ^ k - 1) - y) ∙ pick (decLt 
 -- ---- shifts to the left
 
 -- a shift to the left leaves the lowest digit a 0
-pub member-shl-zero : (y i : ℕ) → member zero (y * 2 ^ suc i) ≡ false
+member-shl-zero : (y i : ℕ) → member zero (y * 2 ^ suc i) ≡ false
 member-shl-zero y i = member-zero (y * 2 ^ suc i) ∙ ap (λ (n : ℕ). eqb n 1) (shifted-even y i)
 
 -- and moves each member up by one
-pub member-shl-suc : (j y i : ℕ) → member (suc j) (y * 2 ^ suc i) ≡ member j (y * 2 ^ i)
+member-shl-suc : (j y i : ℕ) → member (suc j) (y * 2 ^ suc i) ≡ member j (y * 2 ^ i)
 member-shl-suc j y i = member-suc j (y * 2 ^ suc i) ∙ ap (member j) (shifted-half y i)
+
+-- so none below i is left, and i is added to each member
+shl-below : (j i y : ℕ) → j < i → member j (y * 2 ^ i) ≡ false
+shl-below j zero y h = absurd (omega arith)
+shl-below zero (suc i) y h = member-shl-zero y i
+shl-below (suc j) (suc i) y h = member-shl-suc j y i ∙ shl-below j i y (omega arith)
+
+pub member-shl : (j i y : ℕ) → member j (y * 2 ^ i) ≡ (leb i j && member (j - i) y)
+member-shl j i y = pick (decLt j i)
+  where
+    pick : Dec (j < i) → member j (y * 2 ^ i) ≡ (leb i j && member (j - i) y)
+    pick (yes l) = simp (lt-leb i j l) (shl-below j i y l)
+    pick (no l) =
+        let e : i + (j - i) ≡ j = omega arith in
+        simp (le-leb i j (omega arith)) (sym (member-shr (j - i) i (y * 2 ^ i) ∙ ap (λ (n : ℕ). member n (y * 2 ^ i)) e) ∙ ap (member (j - i)) (shl-shr y i))
 
 -- a power of two is the set of its exponent alone
 member-power : (i j : ℕ) → member j (1 * 2 ^ i) ≡ eqb j i

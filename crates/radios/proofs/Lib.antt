@@ -1,3 +1,4 @@
 pub mod Laws
-pub mod First
+pub mod Lowest
 pub mod Counting
+pub mod Eight

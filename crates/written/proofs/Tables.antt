@@ -10,7 +10,7 @@ use lib.Dec.{eqb}
 use lib.ListN.{length, getD, set, replicate, length-set, length-replicate, getD-replicate}
 use lib.Seq.{getD-set-same, getD-set-other, ext-getD}
 use borrow.Author.Tests.{eq-eqb, ne-eqb}
-use Rattle.basics.proofs.Bools.{clash, or-left, or-right, or-cases}
+use Rattle.basics.proofs.Bools.{clash, both-ways, or-left, or-right, or-cases}
 use Rattle.captures.specs.Capture.{linkedIn, tableWith, tableOf}
 
 -- ---- the cells of a link
@@ -82,11 +82,6 @@ cells-kept n place (pair ∷ links) links′ keep c = go (or-cases (isCell n pla
     go : (isCell n place pair ≡ true) ⊎ (inCells n place links ≡ true) → (inCells n place links ≡ true → inCells n place links′ ≡ true) → inCells n place links′ ≡ true
     go (inl h) rest = cell-of n place pair links′ (keep pair (List·Memᴰ·head refl)) h
     go (inr h) rest = rest h
-
-both-ways : (a b : Bool) → (a ≡ true → b ≡ true) → (b ≡ true → a ≡ true) → a ≡ b
-both-ways true b there back = sym (there refl)
-both-ways false true there back = back refl
-both-ways false false there back = refl
 
 -- fill the same table
 pub same-table : (n : ℕ) (links links′ : List (ℕ × ℕ)) → ((pair : ℕ × ℕ) → List·Memᴰ pair links → List·Memᴰ pair links′) → ((pair : ℕ × ℕ) → List·Memᴰ pair links′ → List·Memᴰ pair links)
