@@ -59,14 +59,14 @@ ends task links site fits shows =
     let t = shows .sink in
     record { source = omega (arith, fits .source); sink = omega (arith, fits .sink); differ = λ e. fits .differ (omega arith) }
 
-asked-half : (site : Site) (h : ℕ) (rest : Waiting) → Ends site → Asked site h rest → Half site h
+pub asked-half : (site : Site) (h : ℕ) (rest : Waiting) → Ends site → Asked site h rest → Half site h
 asked-half site h nobody ends e =
     record { below = omega (arith, ends .source); not-into-S = λ d. omega arith; not-from-T = λ d. ends .differ (omega arith) }
 asked-half site h (waits asker i rest) ends a = joined-half site asker h (joined-step site asker h (a .0))
 
 -- ---- the half on top
 
-depth-of : (halves places : List ℕ) (d : ℕ) → depth (waitingOf halves places d) ≡ d
+pub depth-of : (halves places : List ℕ) (d : ℕ) → depth (waitingOf halves places d) ≡ d
 depth-of halves places zero = refl
 depth-of halves places (suc d) = ap suc (depth-of halves places d)
 

@@ -17,7 +17,7 @@ use Rattle.machine.specs.Sane.{Sane}
 use Rattle.machine.specs.Step.{Fits}
 use Rattle.running.specs.declared.Ran.{Ran}
 use Rattle.running.specs.Run.{Leaves}
-use Rattle.running.proofs.Sane.{sane-start}
+use Rattle.twos.proofs.Sane.{sane-start}
 
 -- every one of so many zeros is 0, and so is what lies past them
 zeros : (n i : ℕ) → _≡_ {A = ℕ} (getD (replicate n 0) i 0) 0

@@ -1,24 +1,19 @@
-// The run that fills the log: the machine's inner steps, one after another, until the run is over or the budget is spent.
+// The run that fills the log: the machine's inner steps, those that come in twos together and the others one after another,
+// until the run is over or the budget is spent.
 ghost use mathlib.Core.Path.{_≡_};
 ghost use mathlib.Core.Bool.{false, cond};
-ghost use Prim.Native.Nat.{_*_};
 ghost use lib.ListN.{replicate};
 ghost use Rattle.site.specs.Map.{Site};
 ghost use Rattle.tokens.specs.Rules.{start};
 ghost use Rattle.tokens.specs.Run.{runFrom};
-ghost use Rattle.outcome.specs.Leaves.{kindNumber};
 ghost use Rattle.machine.specs.View.{Shows, isWon, enteredOf, stateOf};
 ghost use Rattle.machine.specs.Step.{Ready};
-ghost use Rattle.running.specs.Run.{written, Writable, Leaves, LeavesFrom, Roomy, Runs};
+ghost use Rattle.twos.specs.Talk.{atDepth};
+ghost use Rattle.running.specs.Run.{Leaves, LeavesFrom, Roomy, Runs};
 use machine::Machine;
 use machine::Stage;
 use machine::Task;
 use tokens::Answer;
-use tokens::Kind;
-use tokens::Message;
-
-// The log takes so many bytes a message.
-const MESSAGE_BYTES: usize = 4;
 
 // There are at most so many halves, two to a radio.
 const MOST_HALVES: usize = 128;
@@ -28,31 +23,6 @@ pub struct Ran {
     pub rounds: usize,
     pub found: usize,
     pub messages: usize,
-}
-
-// A kind's number in the log.
-fn kind_number(kind: Kind) -> u8
-    ensures { λ r. ⌜ r ≡ kindNumber kind ⌝ }
-{
-    match kind {
-        Kind::Pdt => 1,
-        Kind::PdtB => 2,
-        Kind::Pmt => 3,
-        Kind::Done => 4,
-    }
-}
-
-// Message number `at` of the log: its kind, its round and its two ends.
-fn put(log: &mut [u8], at: usize, message: Message, round: usize)
-    requires { ⌜ Writable (now log) at message round ⌝ }
-    ensures { λ r. ⌜ now (log .exit) ≡ written (now (log .entry)) (4 * at) message round ⌝ }
-{
-    let kind = message.kind;
-    let place = MESSAGE_BYTES * at;
-    log[place] = kind_number(kind);
-    log[place + 1] = round as u8;
-    log[place + 2] = message.from as u8;
-    log[place + 3] = message.to as u8;
 }
 
 // No radio in any row.
@@ -103,6 +73,21 @@ fn settle(won: bool, own: &[u8; 128], entered: &mut [u8; 128])
 
 // ---- the run
 
+// The same machine, but so many halves wait.
+fn at_depth(machine: Machine, depth: usize) -> Machine
+    ensures { λ r. ⌜ r ≡ atDepth machine depth ⌝ }
+{
+    let stage = machine.stage;
+    Machine {
+        stage,
+        half: machine.half,
+        radio: machine.radio,
+        depth,
+        round: machine.round,
+        found: machine.found,
+    }
+}
+
 // The run from where the machine stands: each message goes into the log with the round that it leaves the machine in. The
 // machine's own bytes for the halves entered are `own`; those of the last round are left in `entered`.
 fn run_on(
@@ -126,13 +111,28 @@ fn run_on(
     let mut machine = begin;
     let mut sent = 0;
     while sent < budget {
+        let talked = twos::talk(
+            task,
+            machine,
+            budget,
+            sent,
+            links,
+            marks,
+            into,
+            own,
+            halves,
+            places,
+            log,
+        );
+        machine = at_depth(machine, talked.depth);
+        sent = talked.sent;
         let stepped = machine::step(task, machine, links, marks, into, own, halves, places);
         let answer = stepped.answer;
         let Answer::Sent(message) = answer else {
             break;
         };
         let next = stepped.machine;
-        put(log, sent, message, next.round);
+        twos::put(log, sent, message, next.round);
         let stage = next.stage;
         keep(machine::is_won(stage), own, entered);
         machine = next;

@@ -37,7 +37,7 @@ step-below site a b e = go (step-of site a b e)
     go (inside v p q l ns nt) = (omega arith, omega arith)
     go (overLink u v p q l nt ns) = let w = linked-says site u v l in (omega (arith, w .from-below), omega (arith, w .to-below))
 
-joined-below : (site : Site) (a b : ℕ) → Joined site a b → (a < 2 * site .n) × (b < 2 * site .n)
+pub joined-below : (site : Site) (a b : ℕ) → Joined site a b → (a < 2 * site .n) × (b < 2 * site .n)
 joined-below site a b (inl e) = step-below site a b e
 joined-below site a b (inr e) = let w = step-below site b a e in (w .1, w .0)
 

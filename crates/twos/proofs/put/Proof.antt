@@ -1,9 +1,9 @@
--- `running::put` meets its contract. Assumes nothing.
+-- `twos::put` meets its contract. Assumes nothing.
 use native.Mathlib.Omega.{arith}
 use lib.ListN.{length-set}
 use borrow.Author.Needs.{needs}
-use Rattle.running.proofs.put.Statement.{statement}
-use Rattle.running.proofs.put.Tie as tie
+use Rattle.twos.proofs.put.Statement.{statement}
+use Rattle.twos.proofs.put.Tie as tie
 
 mul-place : tie.Need-mul-place
 mul-place c = search needs

@@ -1,0 +1,3 @@
+pub mod Log
+pub mod Progress
+pub mod Talk
