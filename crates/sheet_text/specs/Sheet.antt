@@ -1,4 +1,5 @@
--- The sheet: what the program writes for a text.
+-- The sheet: what the program writes for a text. What a number and a line of the right shape are stands in the specs of `captures`, Text.antt and
+-- Capture.antt; the lines of a sheet in those of `sheet_lines`.
 use mathlib.Core.Bool.{_||_, cond}
 use mathlib.Core.List.{List, [], tail}
 use Prim.Native.Nat.{ℕ}
@@ -54,3 +55,13 @@ sheet text =
     let lines = pieces lineFeed text in
     let wrong = wrongLine 1 lines in
     cond (ltb mostBytes (length text)) (refusedLine 10 0) (cond (eqb wrong 0) (ofHead (headOf (getD lines 0 [])) (tail lines)) (refusedLine 9 wrong))
+
+-- ---- the sheet in a lent buffer
+
+-- no sheet is longer
+abbrev pub sheetRoom : ℕ
+sheetRoom = 512
+
+-- with less room nothing is written
+abbrev pub sheetIn : ℕ → List ℕ → List ℕ
+sheetIn room text = cond (ltb room sheetRoom) [] (sheet text)
