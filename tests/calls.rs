@@ -31,6 +31,8 @@ mod raw;
 mod refusals;
 #[path = "../second/calls.rs"]
 mod second_calls;
+#[path = "calls/shapes.rs"]
+mod shapes;
 #[allow(dead_code)]
 #[path = "../second/sheet.rs"]
 mod sheet;

@@ -6,6 +6,14 @@ pub struct Chance {
 }
 
 impl Chance {
+    /// From the seed and the number of a case alone, so that one case can be made again by itself.
+    pub fn numbered(seed: u64, number: usize) -> Chance {
+        let mut chance = Chance { state: seed };
+        Chance {
+            state: chance.next() ^ (number as u64).wrapping_mul(0xD134_2543_DE82_EF95),
+        }
+    }
+
     pub fn next(&mut self) -> u64 {
         self.state = self.state.wrapping_add(0x9E37_79B9_7F4A_7C15);
         let mut mixed = self.state;

@@ -2,17 +2,15 @@
 
 use crate::both_sides::{Fill, Trial};
 use crate::chance::Chance;
-use crate::map::{Map, FEWEST_RADIOS, MOST_LINKS, MOST_RADIOS, MOST_WANTED};
+use crate::map::{Map, MOST_LINKS, MOST_WANTED};
 use crate::refusals::{Call, Lengths};
+use crate::shapes::{number_of_radios, random_ends, random_pairs};
 use crate::smaller::{needed_by, ENOUGH_FOR_ALL};
 
 /// The call with this number. Most are sound or have one fault; some have several, so that it
 /// shows which refusal comes first.
 pub fn trial_of(seed: u64, number: usize) -> Trial {
-    let mut chance = Chance { state: seed };
-    let mut chance = Chance {
-        state: chance.next() ^ (number as u64).wrapping_mul(0xD134_2543_DE82_EF95),
-    };
+    let mut chance = Chance::numbered(seed, number);
     let mut call = sound_call(&mut chance);
     let faults = match chance.below(20) {
         0..=12 => 0,
@@ -33,16 +31,7 @@ pub fn trial_of(seed: u64, number: usize) -> Trial {
 /// In order but for the number of links, which may be 257.
 fn sound_call(chance: &mut Chance) -> Call {
     let radios = number_of_radios(chance);
-    let mut pairs = match chance.below(8) {
-        0 | 1 => scattered_pairs(chance, radios),
-        2 => chain_pairs(chance, radios),
-        3 => grid_pairs(chance, radios),
-        4 => near_pairs(chance, radios),
-        5 => tree_with_more(chance, radios),
-        6 => bundle_pairs(chance, radios),
-        _ => all_pairs(radios),
-    };
-    chance.shuffle(&mut pairs);
+    let pairs = random_pairs(chance, radios);
     let most_links = match chance.below(16) {
         0 => MOST_LINKS + 1,
         1 => chance.below(MOST_LINKS),
@@ -66,25 +55,6 @@ fn sound_call(chance: &mut Chance) -> Call {
     call
 }
 
-/// Small maps find most faults, and the largest have the largest numbers.
-fn number_of_radios(chance: &mut Chance) -> usize {
-    match chance.below(8) {
-        0..=2 => chance.between(FEWEST_RADIOS, 8),
-        3 | 4 => chance.between(8, 20),
-        5 => chance.between(MOST_RADIOS - 2, MOST_RADIOS),
-        _ => chance.between(FEWEST_RADIOS, MOST_RADIOS),
-    }
-}
-
-/// Often the far ends, so that chains and grids lie between S and T.
-fn random_ends(chance: &mut Chance, radios: usize) -> (usize, usize) {
-    if chance.one_in(2) {
-        return (0, radios - 1);
-    }
-    let source = chance.below(radios);
-    (source, (source + chance.between(1, radios - 1)) % radios)
-}
-
 fn map_of_pairs(
     radios: usize,
     pairs: &[(usize, usize)],
@@ -100,88 +70,6 @@ fn map_of_pairs(
         }
     }
     map
-}
-
-pub fn all_pairs(radios: usize) -> Vec<(usize, usize)> {
-    (0..radios)
-        .flat_map(|upper| (0..upper).map(move |lower| (lower, upper)))
-        .collect()
-}
-
-/// Each pair with the same chance, from none to all.
-fn scattered_pairs(chance: &mut Chance, radios: usize) -> Vec<(usize, usize)> {
-    let percent = chance.between(0, 100);
-    let mut pairs = all_pairs(radios);
-    pairs.retain(|_| chance.below(100) < percent);
-    pairs
-}
-
-/// One long way, sometimes with a few links across it.
-fn chain_pairs(chance: &mut Chance, radios: usize) -> Vec<(usize, usize)> {
-    let mut pairs: Vec<(usize, usize)> = (1..radios).map(|upper| (upper - 1, upper)).collect();
-    for _ in 0..chance.below(4) {
-        pairs.push(random_pair(chance, radios));
-    }
-    pairs
-}
-
-fn random_pair(chance: &mut Chance, radios: usize) -> (usize, usize) {
-    let upper = chance.between(1, radios - 1);
-    (chance.below(upper), upper)
-}
-
-fn grid_pairs(chance: &mut Chance, radios: usize) -> Vec<(usize, usize)> {
-    let width = chance.between(1, 8);
-    let mut pairs = Vec::new();
-    for radio in 0..radios {
-        if (radio + 1) % width != 0 && radio + 1 < radios {
-            pairs.push((radio, radio + 1));
-        }
-        if radio + width < radios {
-            pairs.push((radio, radio + width));
-        }
-    }
-    pairs
-}
-
-/// Links only between near numbers: long ways on which later tokens walk back.
-fn near_pairs(chance: &mut Chance, radios: usize) -> Vec<(usize, usize)> {
-    let reach = chance.between(1, 8);
-    let percent = chance.between(30, 100);
-    let mut pairs = all_pairs(radios);
-    pairs.retain(|(lower, upper)| upper - lower <= reach && chance.below(100) < percent);
-    pairs
-}
-
-fn tree_with_more(chance: &mut Chance, radios: usize) -> Vec<(usize, usize)> {
-    let mut pairs: Vec<(usize, usize)> = (1..radios)
-        .map(|upper| (chance.below(upper), upper))
-        .collect();
-    for _ in 0..chance.below(2 * radios) {
-        pairs.push(random_pair(chance, radios));
-    }
-    pairs
-}
-
-/// Several ways side by side from the first radio to the last, with links across: many paths.
-fn bundle_pairs(chance: &mut Chance, radios: usize) -> Vec<(usize, usize)> {
-    let ways = chance.between(1, 9);
-    let last = radios - 1;
-    let mut pairs = Vec::new();
-    for radio in 1..last {
-        if radio <= ways {
-            pairs.push((0, radio));
-        }
-        let next = radio + ways;
-        pairs.push((radio, if next < last { next } else { last }));
-    }
-    if last == 1 || chance.one_in(2) {
-        pairs.push((0, last));
-    }
-    for _ in 0..chance.below(radios) {
-        pairs.push(random_pair(chance, radios));
-    }
-    pairs
 }
 
 /// Exactly enough, a byte short of it in one place, or longer.

@@ -4,8 +4,8 @@ use std::time::{Duration, Instant};
 
 use crate::both_sides::Trial;
 use crate::map::MOST_RADIOS;
-use crate::random::all_pairs;
 use crate::refusals::{judge_call, lengths_needed, Call, Lengths};
+use crate::shapes::all_pairs;
 
 /// Enough for every map: 4·17·574 for the log, 62+24 for the paths, 8 for the cut.
 pub const ENOUGH_FOR_ALL: Lengths = Lengths {
