@@ -6,3 +6,4 @@ pub mod ReadBack
 pub mod MapBack
 pub mod Lengths
 pub mod Sheets
+pub mod Lent

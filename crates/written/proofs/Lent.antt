@@ -1,0 +1,193 @@
+-- The program lends enough: of the refusals 1 to 8 a call that it makes meets only 4, 5 and 6. Assumes nothing.
+use mathlib.Core.Path.{_≡_, refl, sym, ap, _∙_}
+use mathlib.Core.Bool.{Bool, true, false, not, _||_, cond}
+use mathlib.Core.List.{List, [], _∷_}
+use mathlib.Core.Logic.{_⊎_, inl, inr}
+use Prim.Native.Nat.{ℕ, suc, _+_, _-_, _*_, _/_, _%_, _≤_, _<_}
+use native.Mathlib.Nat.{div-add-mod', mul-le-mul}
+use native.Mathlib.Omega.{arith}
+use lib.Dec.{eqb, ltb}
+use lib.ListN.{getD}
+use borrow.Author.Tests.{eq-eqb, eqb-true, ltb-true}
+use Rattle.basics.specs.Counting.{oneIf}
+use Rattle.basics.specs.Lists.{All}
+use Rattle.basics.proofs.Bools.{clash, both-ways, or-left, or-right, or-cases}
+use Rattle.basics.proofs.Counting.{some-counts}
+use Rattle.site.specs.Limits.{mostRadios}
+use Rattle.site.specs.Map.{Site, degree, links, link, A}
+use Rattle.site.specs.Refusals.{Call, callOf, verdict, number}
+use Rattle.site.specs.Conditions.{Fault, no-bit, diagonal, mirror}
+use Rattle.site.specs.declared.Verdict.{Verdict}
+use Rattle.site.specs.declared.Verdict.the-variants.{Accepted, Radios, TableLength, Cell, Links, Ends, Wanted, Log, Lists}
+use Rattle.site.proofs.Formula.{Even, steps-and-degrees}
+use Rattle.site.proofs.Exactly.{refused-exactly}
+use Rattle.site.proofs.Valid.{even-links}
+use Rattle.outcome.specs.Leaves.{outcome}
+use Rattle.captures.specs.Capture.{came, badLink, badLine, tableOf}
+use Rattle.sheet_text.specs.Sheet.{logLent, pathsLent, cutLent}
+use Rattle.written.proofs.Places.{row-of, column-of, in-table, row-below, column-below}
+use Rattle.written.proofs.Tables.{isCell, inCells, table-of-long, table-of-cell}
+
+-- ---- 3: the table of good links has no bad cell
+
+-- the radios of a link that is not bad
+abbrev Ordered : ℕ → ℕ × ℕ → Type 0
+Ordered n pair = (pair .0 < pair .1) × (pair .1 < n)
+
+good-ordered : (n : ℕ) (before : List (ℕ × ℕ)) (pair : ℕ × ℕ) → badLink n before pair ≡ false → Ordered n pair
+good-ordered n before pair good = go (ltb (pair .0) (pair .1)) (ltb (pair .1) n) refl refl good
+  where
+    go : (a b : Bool) → ltb (pair .0) (pair .1) ≡ a → ltb (pair .1) n ≡ b → (not a || not b || came (pair .0) (pair .1) before) ≡ false → Ordered n pair
+    go true true p q g = (ltb-true _ _ p, ltb-true _ _ q)
+    go true false p q g = clash refl g
+    go false b p q g = clash refl g
+
+-- where no line is bad every link is in order
+all-ordered : (n number : ℕ) (before links : List (ℕ × ℕ)) → badLine n (suc number) before links ≡ 0 → All (Ordered n) links
+unfolding badLine
+all-ordered n number before [] e = tt
+all-ordered n number before (pair ∷ links) e = go (badLink n before pair) refl e (all-ordered n (suc number) (pair ∷ before) links)
+  where
+    go : (b : Bool) → badLink n before pair ≡ b → cond b (suc number) (badLine n (suc (suc number)) (pair ∷ before) links) ≡ 0
+        → (badLine n (suc (suc number)) (pair ∷ before) links ≡ 0 → All (Ordered n) links) → Ordered n pair × All (Ordered n) links
+    go true is z rest = absurd (omega arith)
+    go false is z rest = (good-ordered n before pair is, rest z)
+
+-- the place on the other side of the diagonal
+abbrev other : ℕ → ℕ → ℕ
+other n place = place % n * n + place / n
+
+-- what is known of a place that is a link's cell: so is its mirror, which the test tells, and it is not on the diagonal
+record OfLink (n place : ℕ) (mirror-is : Bool) : Type 0 where
+  mirror-too : mirror-is ≡ true
+  off-diagonal : place / n ≡ place % n → ⊥
+
+of-link : (n place : ℕ) (pair : ℕ × ℕ) → Ordered n pair → isCell n place pair ≡ true → OfLink n place (isCell n (other n place) pair)
+of-link n place pair ord c = go (or-cases (eqb place second) (eqb place first) c)
+  where
+    first : ℕ
+    first = pair .0 * n + pair .1
+
+    second : ℕ
+    second = pair .1 * n + pair .0
+
+    at : (u v : ℕ) → v < n → place ≡ u * n + v → (place / n ≡ u) × (place % n ≡ v)
+    at u v p e = (ap (λ (x : ℕ). x / n) e ∙ row-of n u v p, ap (λ (x : ℕ). x % n) e ∙ column-of n u v p)
+
+    go : (eqb place second ≡ true) ⊎ (eqb place first ≡ true) → OfLink n place (isCell n (other n place) pair)
+    go (inl h) =
+        let w = at (pair .1) (pair .0) (omega (arith, ord .0, ord .1)) (eqb-true place second h) in
+        let mirrored : other n place ≡ first = rw (w .0, w .1) refl in
+        record { mirror-too = or-right (eqb (other n place) second) (eqb (other n place) first) (eq-eqb _ _ mirrored); off-diagonal = λ e. omega (arith, w .0, w .1, ord .0) }
+    go (inr h) =
+        let w = at (pair .0) (pair .1) (ord .1) (eqb-true place first h) in
+        let mirrored : other n place ≡ second = rw (w .0, w .1) refl in
+        record { mirror-too = or-left (eqb (other n place) second) (eqb (other n place) first) (eq-eqb _ _ mirrored); off-diagonal = λ e. omega (arith, w .0, w .1, ord .0) }
+
+of-links : (n place : ℕ) (links : List (ℕ × ℕ)) → All (Ordered n) links → inCells n place links ≡ true → OfLink n place (inCells n (other n place) links)
+of-links n place [] ord c = clash c refl
+of-links n place (pair ∷ links) ord c = go (or-cases (isCell n place pair) (inCells n place links) c) (of-links n place links (ord .1))
+  where
+    go : (isCell n place pair ≡ true) ⊎ (inCells n place links ≡ true) → (inCells n place links ≡ true → OfLink n place (inCells n (other n place) links))
+        → OfLink n place (inCells n (other n place) (pair ∷ links))
+    go (inl h) rest =
+        let w = of-link n place pair (ord .0) h in
+        record { mirror-too = or-left (isCell n (other n place) pair) (inCells n (other n place) links) (w .mirror-too); off-diagonal = w .off-diagonal }
+    go (inr h) rest =
+        let w = rest h in
+        record { mirror-too = or-right (isCell n (other n place) pair) (inCells n (other n place) links) (w .mirror-too); off-diagonal = w .off-diagonal }
+
+no-fault : (n : ℕ) (links : List (ℕ × ℕ)) → All (Ordered n) links → 0 < n → (place : ℕ) → place < n * n → Fault (tableOf n links) n place → ⊥
+no-fault n links ord some place p = go (inCells n place links) refl
+  where
+    row : place / n < n
+    row = row-below n place some p
+
+    mirror-in : other n place < n * n
+    mirror-in = in-table n (place % n) (place / n) row (column-below n place some)
+
+    back : other n (other n place) ≡ place
+    back = rw (row-of n (place % n) (place / n) row, column-of n (place % n) (place / n) row) (div-add-mod' place n)
+
+    same : inCells n place links ≡ inCells n (other n place) links
+    same = both-ways _ _ (λ c. of-links n place links ord c .mirror-too) (λ c. ap (λ (x : ℕ). inCells n x links) (sym back) ∙ of-links n (other n place) links ord c .mirror-too)
+
+    cell : (b : Bool) → inCells n place links ≡ b → getD (tableOf n links) place 0 ≡ cond b 1 0
+    cell b is = table-of-cell n links place p ∙ ap (λ (x : Bool). cond x 1 0) is
+
+    go : (b : Bool) → inCells n place links ≡ b → Fault (tableOf n links) n place → ⊥
+    go true is (no-bit zero one) = one (cell true is)
+    go false is (no-bit zero one) = zero (cell false is)
+    go true is (diagonal on nonzero) = of-links n place links ord is .off-diagonal on
+    go false is (diagonal on nonzero) = nonzero (cell false is)
+    go b is (mirror differ) = differ (cell b is ∙ sym (table-of-cell n links (other n place) mirror-in ∙ ap (λ (x : Bool). cond x 1 0) (sym same ∙ is)))
+
+-- ---- 7: the longest log
+
+-- with S and T linked S has a link, so there are at most 2m + n − 2 steps
+most-steps : (site : Site) → site .S < site .n → site .T < site .n → (site .S ≡ site .T → ⊥) → Even (site .table) (site .n)
+    → A site + 2 ≤ 2 * links (site .table) (site .n) + site .n
+most-steps site source sink differ even = omega (arith, steps-and-degrees site source sink differ even, direct (link site (site .S) (site .T)) refl)
+  where
+    direct : (b : Bool) → link site (site .S) (site .T) ≡ b → oneIf b ≤ degree (site .table) (site .n) (site .S)
+    direct true e = omega (arith, some-counts (link site (site .S)) (site .n) (site .T) sink e)
+    direct false e = omega arith
+
+-- ---- the refusals that are left
+
+-- the call that `ofLinks` makes, with the lent lengths
+abbrev lentCall : ℕ → ℕ → ℕ → ℕ → List (ℕ × ℕ) → Call
+lentCall n S T k list = callOf n (tableOf n list) S T k logLent pathsLent cutLent
+
+-- `ofLinks` makes it where refusals 1 and 11 are not against the text
+module _ (n S T k : ℕ) (list : List (ℕ × ℕ)) (two : 2 ≤ n) (most : n ≤ mostRadios) (good : badLine n 2 [] list ≡ 0) where
+  sound : (place : ℕ) → place < n * n → Fault (tableOf n list) n place → ⊥
+  sound = no-fault n list (all-ordered n 1 [] list good) (omega arith)
+
+  not-1 : number (verdict (lentCall n S T k list)) ≡ 1 → ⊥
+  not-1 e = go (refused-exactly (lentCall n S T k list) 0 .0 e .0)
+    where
+      go : (n < 2) ⊎ (64 < n) → ⊥
+      go (inl p) = omega arith
+      go (inr p) = omega arith
+
+  not-2 : number (verdict (lentCall n S T k list)) ≡ 2 → ⊥
+  not-2 e = refused-exactly (lentCall n S T k list) 1 .0 e .0 (table-of-long n list)
+
+  not-3 : number (verdict (lentCall n S T k list)) ≡ 3 → ⊥
+  not-3 e = let w = refused-exactly (lentCall n S T k list) 2 .0 e .0 in sound (w .0) (w .1) (w .2)
+
+  -- 17 · 574 messages of four bytes are the 39,032 lent
+  not-7 : number (verdict (lentCall n S T k list)) ≡ 7 → ⊥
+  not-7 e =
+      let first = refused-exactly (lentCall n S T k list) 6 .0 e in
+      let few : 256 < links (tableOf n list) n → ⊥ = first .1 3 (omega arith) in
+      let source : n ≤ S → ⊥ = λ p. first .1 4 (omega arith) (inl p) in
+      let sink : n ≤ T → ⊥ = λ p. first .1 4 (omega arith) (inr (inl p)) in
+      let wanted : 8 < k → ⊥ = λ p. first .1 5 (omega arith) (inr p) in
+      let steps = most-steps (lentCall n S T k list .site) (omega arith) (omega arith) (λ d. first .1 4 (omega arith) (inr (inr d))) (even-links (tableOf n list) n sound) in
+      let messages : (2 * k + 1) * A (lentCall n S T k list .site) ≤ 17 * 574 = mul-le-mul {n₂ = 17} {m₂ = 574} (omega arith) (omega (arith, steps)) in
+      omega (arith, messages, first .0)
+
+  not-8 : number (verdict (lentCall n S T k list)) ≡ 8 → ⊥
+  not-8 e = let first = refused-exactly (lentCall n S T k list) 7 .0 e in go (λ p. first .1 5 (omega arith) (inr p)) (first .0)
+    where
+      go : (8 < k → ⊥) → (pathsLent < n - 2 + 3 * k) ⊎ (cutLent < k) → ⊥
+      go wanted (inl p) = omega arith
+      go wanted (inr p) = wanted p
+
+  pub lends-enough : let r = outcome (callOf n (tableOf n list) S T k logLent pathsLent cutLent) .refusal in (r ≡ 0) ⊎ (r ≡ 4) ⊎ (r ≡ 5) ⊎ (r ≡ 6)
+  unfolding outcome
+  lends-enough = go (verdict (lentCall n S T k list)) not-1 not-2 not-3 not-7 not-8
+    where
+      go : (v : Verdict) → (number v ≡ 1 → ⊥) → (number v ≡ 2 → ⊥) → (number v ≡ 3 → ⊥) → (number v ≡ 7 → ⊥) → (number v ≡ 8 → ⊥)
+          → (number v ≡ 0) ⊎ (number v ≡ 4) ⊎ (number v ≡ 5) ⊎ (number v ≡ 6)
+      go Accepted a b c d e = inl refl
+      go Radios a b c d e = absurd (a refl)
+      go TableLength a b c d e = absurd (b refl)
+      go (Cell place) a b c d e = absurd (c refl)
+      go Links a b c d e = inr (inl refl)
+      go Ends a b c d e = inr (inr (inl refl))
+      go Wanted a b c d e = inr (inr (inr refl))
+      go Log a b c d e = absurd (d refl)
+      go Lists a b c d e = absurd (e refl)
