@@ -1,4 +1,4 @@
-//! The calls that the proved program `edges` makes, answered here: its expected lines.
+//! The calls that the proved program `edges` makes: its input, and answered here its expected lines.
 //!
 //! Document 01's "n = 1, 64, 65; 256 and 257 links; k = 0, 8, 9; each buffer one byte short and
 //! exactly enough", huge numbers, and calls that follow others in the same buffers. What a call
@@ -12,6 +12,8 @@ use crate::refusals::{judge_call, Call, Lengths, Refusal};
 /// Past every number of a radio, and past 32 bits.
 const HUGE: usize = 1 << 40;
 const LARGEST_NUMBER: usize = usize::MAX;
+/// No table of a call has this place.
+const NOWHERE: usize = 4226;
 /// The largest prime below 2^32.
 const SUM_MODULUS: u64 = 4_294_967_291;
 const SUM_FACTOR: u64 = 257;
@@ -31,6 +33,8 @@ struct Plan {
     wanted: usize,
     cells: usize,
     lengths: Lengths,
+    /// Is the call made in the buffers as the call before it left them?
+    kept: bool,
 }
 
 impl Plan {
@@ -80,6 +84,10 @@ impl Plan {
             lengths: Lengths { log, paths, cut },
             ..self
         }
+    }
+
+    fn with_kept_buffers(self) -> Plan {
+        Plan { kept: true, ..self }
     }
 
     fn map(&self) -> Map {
@@ -137,6 +145,7 @@ const PAIR: Plan = Plan {
         paths: 3,
         cut: 1,
     },
+    kept: false,
 };
 
 /// The most radios, the most links (64 radios, each linked to 8) and the most paths.
@@ -155,6 +164,7 @@ const LARGEST: Plan = Plan {
         paths: 86,
         cut: 8,
     },
+    kept: false,
 };
 
 type Case = (&'static str, Plan);
@@ -297,13 +307,17 @@ fn runs_after_runs() -> Vec<Case> {
     ];
     pairs
         .into_iter()
-        .flat_map(|(first, name, second)| [("before the next", first), (name, second)])
+        .flat_map(|(first, name, second)| {
+            [
+                ("before the next", first),
+                (name, second.with_kept_buffers()),
+            ]
+        })
         .collect()
 }
 
-/// Every case with its result, one line each. An error is a failed check.
-pub fn write_edges() -> Result<String, String> {
-    let groups = [
+fn all_cases() -> Vec<Case> {
+    [
         numbers_of_radios(),
         tables(),
         numbers_of_links(),
@@ -312,8 +326,39 @@ pub fn write_edges() -> Result<String, String> {
         small_buffers(),
         large_buffers(),
         runs_after_runs(),
+    ]
+    .concat()
+}
+
+/// Every case as the program `edges` reads it, one line each.
+pub fn write_calls() -> String {
+    all_cases().iter().map(write_call).collect()
+}
+
+/// Every case with its result, one line each. An error is a failed check.
+pub fn write_edges() -> Result<String, String> {
+    all_cases().iter().map(write_case).collect()
+}
+
+/// The name and thirteen numbers, parted by TABs.
+fn write_call((name, plan): &Case) -> String {
+    let numbers = [
+        plan.radios,
+        plan.cells,
+        plan.source,
+        plan.destination,
+        plan.wanted,
+        plan.lengths.log,
+        plan.lengths.paths,
+        plan.lengths.cut,
+        plan.circle,
+        plan.reach,
+        plan.spokes,
+        plan.spoiled.unwrap_or(NOWHERE),
+        usize::from(plan.kept),
     ];
-    groups.iter().flatten().map(write_case).collect()
+    let columns: String = numbers.iter().map(|number| format!("\t{number}")).collect();
+    format!("{name}{columns}\n")
 }
 
 fn write_case((name, plan): &Case) -> Result<String, String> {

@@ -22,6 +22,7 @@ const USAGE: &str = "\
 usage: second sheet              one capture on standard input, its sheet on standard output
        second calls              call lines on standard input, each written with its result
        second edges              the calls of the program edges, each with its result
+       second edges calls        the calls of the program edges, as it reads them
        second rows               the rows of document 01 as computed here
        second soak COUNT SEED    COUNT random maps held against every check
        second every RADIOS       all maps of 2 to 6 radios held against every check
@@ -52,6 +53,7 @@ fn answer(words: &[&str]) -> Option<Result<(), String>> {
         ["sheet"] => Some(answer_sheet()),
         ["calls"] => Some(answer_calls()),
         ["edges"] => Some(edges::write_edges().and_then(|lines| print(&lines))),
+        ["edges", "calls"] => Some(print(&edges::write_calls())),
         ["rows"] => Some(rows::write_rows().and_then(|rows| print(&rows))),
         ["soak", count, seed] => {
             let (count, seed) = (count.parse().ok()?, seed.parse().ok()?);

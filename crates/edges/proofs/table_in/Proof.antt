@@ -1,16 +1,19 @@
--- `edges::table_of` meets its contract: a store leaves the length of the table as it was. Assumes nothing.
+-- `edges::table_in` meets its contract: a store leaves the length of the table as it was. Assumes nothing.
 use mathlib.Core.Path.{_≡_}
 use Prim.Native.Nat.{_-_, _≤_}
 use lib.ListN.{length}
 use borrow.Author.Needs.{needs}
-use Rattle.edges.proofs.table_of.Statement.{statement}
-use Rattle.edges.proofs.table_of.Tie as tie
+use Rattle.edges.proofs.table_in.Statement.{statement}
+use Rattle.edges.proofs.table_in.Tie as tie
 
 abbrev Inv-loop : tie.InvT-loop
-Inv-loop call table₀ place₀ table place = (4226 ≡ length table) × (place ≤ 4226)
+Inv-loop line map table₀ place₀ table place = (4226 ≡ length table) × (place ≤ 4226)
 
 abbrev μ-loop : tie.MeasureT-loop
-μ-loop call table₀ place₀ table place = 4226 - place
+μ-loop line map table₀ place₀ table place = 4226 - place
+
+map-in-requires : tie.Need-map-in-requires Inv-loop μ-loop
+map-in-requires c κs = search needs
 
 loop-holds : tie.Need-loop-holds Inv-loop μ-loop
 loop-holds c = search needs
@@ -33,12 +36,13 @@ loop-again c = search needs
 returns : tie.Need-returns Inv-loop μ-loop
 returns c = search needs
 
-pub table-of-spec : {M : Type 1} → statement M
-table-of-spec =
+pub table-in-spec : {M : Type 1} → statement M
+table-in-spec =
     tie.close
     (tie.spec
     Inv-loop
     μ-loop
+    map-in-requires
     loop-holds
     cell-requires
     array-write-table
