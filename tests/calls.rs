@@ -6,6 +6,9 @@
 
 #[path = "calls/both_sides.rs"]
 mod both_sides;
+#[allow(dead_code)]
+#[path = "texts/capture.rs"]
+mod capture;
 #[path = "calls/chance.rs"]
 mod chance;
 #[path = "../second/checks.rs"]
@@ -38,6 +41,8 @@ mod shapes;
 mod sheet;
 #[path = "calls/smaller.rs"]
 mod smaller;
+#[path = "calls/smaller_maps.rs"]
+mod smaller_maps;
 
 use std::io::{self, IsTerminal};
 use std::process::ExitCode;
@@ -45,7 +50,7 @@ use std::sync::atomic::{AtomicBool, AtomicUsize, Ordering};
 use std::sync::Mutex;
 use std::time::{Duration, Instant};
 
-use both_sides::{Difference, Left};
+use both_sides::Left;
 use random::trial_of;
 use refusals::Call;
 use smaller::shrink;
@@ -239,14 +244,7 @@ impl Drop for CountedAtEnd<'_> {
 
 fn describe_difference(seed: u64, number: usize) -> String {
     let trial = trial_of(seed, number);
-    let what = match trial.compare() {
-        Ok(_) => "differed once and not again".to_string(),
-        Err(Difference::Second(fault)) => {
-            format!("the second program failed its own check: {fault}")
-        }
-        Err(Difference::Touched(fault)) => fault,
-        Err(Difference::Left) => "the library differs from the second program".to_string(),
-    };
+    let what = trial.what_differs();
     // Told before anything smaller is tried: a faulty library may end the program there.
     eprintln!(
         "calls: {what} (call {number} of seed {seed}; `{} one {seed} {number}` shows it as it was made)",

@@ -4,6 +4,10 @@
 //! Each text has a number and is made from the seed and that number alone, so a text whose sheet
 //! differs can be made again by itself.
 
+#[path = "texts/both_sheets.rs"]
+mod both_sheets;
+#[path = "texts/capture.rs"]
+mod capture;
 #[path = "calls/chance.rs"]
 mod chance;
 #[path = "../second/checks.rs"]
@@ -18,18 +22,22 @@ mod map;
 #[allow(dead_code)]
 #[path = "../second/outcome.rs"]
 mod outcome;
+#[allow(dead_code)]
 #[path = "texts/program.rs"]
 mod program;
 #[path = "texts/random.rs"]
-mod random;
+mod random_texts;
 #[allow(dead_code)]
 #[path = "../second/refusals.rs"]
 mod refusals;
 #[path = "calls/shapes.rs"]
 mod shapes;
-#[allow(dead_code)]
 #[path = "../second/sheet.rs"]
 mod sheet;
+#[path = "calls/smaller_maps.rs"]
+mod smaller_maps;
+#[path = "texts/smaller.rs"]
+mod smaller_texts;
 
 use std::collections::BTreeMap;
 use std::io::{self, IsTerminal};
@@ -38,8 +46,10 @@ use std::sync::atomic::{AtomicBool, AtomicUsize, Ordering};
 use std::sync::Mutex;
 use std::time::{Duration, Instant};
 
+use both_sheets::{compare, describe};
 use program::Program;
-use random::{text_of, Text};
+use random_texts::{text_of, Text};
+use smaller_texts::shrink;
 
 const USAGE: &str = "\
 usage: texts random SEED COUNT PROGRAM [WORDS]    COUNT random texts, the same for the same seed
@@ -52,8 +62,6 @@ const EXIT_USAGE: u8 = 2;
 /// The machine that runs this is shared; two are enough for a minute's work.
 const MOST_THREADS: usize = 2;
 const BETWEEN_PROGRESS_LINES: Duration = Duration::from_secs(1);
-/// Making a text that differs smaller helps the reader, but must not keep him waiting.
-const LONGEST_SHRINKING: Duration = Duration::from_secs(3);
 /// How a sheet may begin: two words of its report, or its refusal number, in the order of the paper.
 const KINDS: [&str; 9] = [
     "full",
@@ -92,27 +100,12 @@ fn answer(words: &[&str]) -> Option<Result<(), String>> {
     if program.is_empty() {
         return None;
     }
-    let program = Program { words: program };
+    let program = Program::new(program);
     match *what {
         "random" => Some(random_texts(seed, number, &program)),
         "one" => Some(one_text(seed, number, &program)),
         _ => None,
     }
-}
-
-/// The sheet that both gave, or what is wrong.
-fn compare(text: &Text, program: &Program) -> Result<String, String> {
-    let expected = sheet::sheet_of_text(&text.bytes)
-        .map_err(|fault| format!("the second program failed its own check: {fault}"))?;
-    let got = program.sheet_of(text)?;
-    if got != expected.as_bytes() {
-        return Err(format!(
-            "the sheets differ\n  expected: {}\n  got:      {}",
-            expected.as_bytes().escape_ascii(),
-            got.escape_ascii()
-        ));
-    }
-    Ok(expected)
 }
 
 fn kind_of(sheet: &str) -> String {
@@ -290,44 +283,13 @@ fn describe_difference(seed: u64, number: usize, program: &Program) -> String {
         Ok(_) => return format!("text {number} of seed {seed} differed once and not again"),
         Err(what) => what,
     };
-    let smallest = shrink(text, program);
-    let what_is_left = match compare(&smallest, program) {
-        Ok(_) => "differed once and not again".to_string(),
-        Err(what) => what,
-    };
     format!(
         "{what}\n(text {number} of seed {seed}; `{} one {seed} {number} {}` shows it as it was made)\n\
-         the text made smaller: {}\n{what_is_left}",
+         the text made smaller\n{}",
         std::env::args().next().unwrap_or_default(),
         program.words.join(" "),
-        smallest.bytes.escape_ascii()
+        describe(&shrink(text, program), program)
     )
-}
-
-/// Leaves out lines as long as the sheets still differ.
-fn shrink(text: Text, program: &Program) -> Text {
-    let started = Instant::now();
-    let mut smallest = text;
-    let mut place = 0;
-    while started.elapsed() < LONGEST_SHRINKING {
-        let lines: Vec<&[u8]> = smallest
-            .bytes
-            .split_inclusive(|&byte| byte == b'\n')
-            .collect();
-        if place >= lines.len() {
-            break;
-        }
-        let smaller = Text {
-            bytes: [&lines[..place], &lines[place + 1..]].concat().concat(),
-            ..smallest
-        };
-        if compare(&smaller, program).is_err() {
-            smallest = smaller;
-        } else {
-            place += 1;
-        }
-    }
-    smallest
 }
 
 fn one_text(seed: u64, number: usize, program: &Program) -> Result<(), String> {

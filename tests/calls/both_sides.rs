@@ -1,11 +1,13 @@
 //! What a call leaves, by the second program and by the library, and where the two differ.
 
+use crate::capture::capture_of;
 use crate::chance::Chance;
 use crate::lines::{write_asked, write_left};
 use crate::outcome::run_checked;
 use crate::raw;
 use crate::refusals::{judge_call, Call};
 use crate::second_calls;
+use crate::smaller_maps::question_of;
 
 /// Every number and every byte that a call leaves.
 #[derive(Clone, Debug, PartialEq, Eq)]
@@ -104,6 +106,9 @@ pub enum Fill {
 }
 
 impl Fill {
+    /// What the buffers hold before a call that comes as a line.
+    pub const PLAIN: Fill = Fill::Same(0xAA);
+
     fn byte(self, chance: &mut Chance) -> u8 {
         match self {
             Fill::Same(byte) => byte,
@@ -175,19 +180,34 @@ impl Trial {
         self.compare().is_err()
     }
 
-    /// The call as a line of calls.txt, what the second program says, and what the library left.
+    /// In what the call differs, in words.
+    pub fn what_differs(&self) -> String {
+        match self.compare() {
+            Ok(_) => "differed once and not again".to_string(),
+            Err(Difference::Second(fault)) => {
+                format!("the second program failed its own check: {fault}")
+            }
+            Err(Difference::Touched(fault)) => fault,
+            Err(Difference::Left) => "the library differs from the second program".to_string(),
+        }
+    }
+
+    /// The map as a capture where it is one, the call as a line of calls.txt, and what each side
+    /// makes of it.
     pub fn describe(&self) -> String {
+        let capture = question_of(&self.call).map(|question| capture_of(1, &question));
         let asked = write_asked(&self.call);
         let expected = match second_calls::answer_line(&asked) {
-            Ok(line) => line,
-            Err(fault) => format!("{asked}\n  the second program failed its own check: {fault}"),
+            Ok(line) => line[asked.len()..].to_string(),
+            Err(fault) => format!(" the second program failed its own check: {fault}"),
         };
         let got = match self.library_leaves() {
-            Ok(left) => format!("{asked} => {}", write_left(&left)),
-            Err(fault) => fault,
+            Ok(left) => format!(" => {}", write_left(&left)),
+            Err(fault) => format!(" {fault}"),
         };
         format!(
-            "  buffers held before: {:?}\n  expected: {expected}\n  got:      {got}",
+            "{}  buffers held before: {:?}\n  call: {asked}\n  expected:{expected}\n  got:     {got}",
+            capture.unwrap_or_default(),
             self.fill
         )
     }

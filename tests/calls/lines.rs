@@ -58,7 +58,7 @@ pub fn answer_lines() -> Result<(), String> {
         let asked = line.split(" => ").next().unwrap_or(&line);
         let trial = Trial {
             call: read_asked(asked).map_err(|fault| format!("line {number}: {fault}"))?,
-            fill: Fill::Same(0xAA),
+            fill: Fill::PLAIN,
         };
         let left = trial
             .library_leaves()

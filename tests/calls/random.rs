@@ -5,7 +5,8 @@ use crate::chance::Chance;
 use crate::map::{Map, MOST_LINKS, MOST_WANTED};
 use crate::refusals::{Call, Lengths};
 use crate::shapes::{number_of_radios, random_ends, random_pairs};
-use crate::smaller::{needed_by, ENOUGH_FOR_ALL};
+use crate::smaller::needed_by;
+use crate::smaller_maps::ENOUGH_FOR_ALL;
 
 /// The call with this number. Most are sound or have one fault; some have several, so that it
 /// shows which refusal comes first.

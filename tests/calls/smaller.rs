@@ -2,32 +2,25 @@
 
 use std::time::{Duration, Instant};
 
-use crate::both_sides::Trial;
-use crate::map::MOST_RADIOS;
-use crate::refusals::{judge_call, lengths_needed, Call, Lengths};
-use crate::shapes::all_pairs;
+use crate::both_sides::{Fill, Trial};
+use crate::refusals::{judge_call, lengths_needed, Call, Lengths, Refusal};
+use crate::smaller_maps::{copy_of, lower_numbers, question_of, smaller_questions};
 
-/// Enough for every map: 4·17·574 for the log, 62+24 for the paths, 8 for the cut.
-pub const ENOUGH_FOR_ALL: Lengths = Lengths {
-    log: 39_032,
-    paths: 86,
-    cut: 8,
-};
 /// Making a call that differs smaller helps the reader, but must not keep him waiting.
-const LONGEST_SHRINKING: Duration = Duration::from_secs(3);
+const LONGEST_SHRINKING: Duration = Duration::from_secs(5);
 
-/// Tries smaller calls as long as one of them still differs.
+/// Tries smaller calls as long as one of them still differs. All are accepted, or refused by the
+/// same number: another refusal would be another fault.
 pub fn shrink(trial: Trial) -> Trial {
     let started = Instant::now();
-    let mut smallest = trial;
+    let refusal = refusal_number(&trial.call);
+    let mut smallest = with_plain_fill(trial);
     loop {
+        let fill = smallest.fill;
         let smaller = smaller_calls(&smallest.call)
-            .into_iter()
             .take_while(|_| started.elapsed() < LONGEST_SHRINKING)
-            .map(|call| Trial {
-                call,
-                fill: smallest.fill,
-            })
+            .filter(|call| refusal_number(call) == refusal)
+            .map(|call| Trial { call, fill })
             .find(Trial::differs);
         match smaller {
             Some(trial) => smallest = trial,
@@ -36,65 +29,44 @@ pub fn shrink(trial: Trial) -> Trial {
     }
 }
 
-/// Each smaller call twice: with the lengths as they are, and with lengths as far from what is
-/// needed as before, since a fault may lie in what is taken for enough.
-fn smaller_calls(call: &Call) -> Vec<Call> {
-    let mut smaller = Vec::new();
-    for one in smaller_questions(call) {
-        if let Some(lengths) = lengths_as_far_from_needed(call, &one) {
-            smaller.push(Call {
-                lengths,
-                ..copy_of(&one)
-            });
-        }
-        smaller.push(one);
-    }
-    if let Some(needed) = needed_by(call) {
-        let longer = needed.log < call.lengths.log
-            || needed.paths < call.lengths.paths
-            || needed.cut < call.lengths.cut;
-        if longer {
-            smaller.push(Call {
-                lengths: needed,
-                ..copy_of(call)
-            });
-        }
-    }
-    smaller
+/// Nothing where it is accepted.
+pub fn refusal_number(call: &Call) -> Option<usize> {
+    judge_call(call).err().map(Refusal::number)
 }
 
-/// One radio less, one link less, or one path fewer wanted.
-fn smaller_questions(call: &Call) -> Vec<Call> {
-    let mut smaller = Vec::new();
-    let radios = call.radios;
-    if radios <= MOST_RADIOS && call.table.len() == radios * radios {
-        for radio in (0..radios).rev() {
-            if radio != call.source && radio != call.destination {
-                smaller.push(without_radio(call, radio));
-            }
-        }
-        for (lower, upper) in all_pairs(radios) {
-            if call.table[lower * radios + upper] != 0 {
-                smaller.push(without_link(call, lower, upper));
-            }
-        }
+/// A call line says nothing of the bytes before, so a call made from one should differ as well.
+fn with_plain_fill(trial: Trial) -> Trial {
+    let plain = Trial {
+        call: copy_of(&trial.call),
+        fill: Fill::PLAIN,
+    };
+    if plain.differs() {
+        plain
+    } else {
+        trial
     }
-    if call.wanted > 1 {
-        smaller.push(Call {
-            wanted: call.wanted - 1,
-            ..copy_of(call)
+}
+
+/// Each smaller question twice: with lengths as far from what is needed as before, since a fault
+/// may lie in what is taken for enough, and with the lengths as they are.
+fn smaller_calls(call: &Call) -> impl Iterator<Item = Call> + '_ {
+    let smaller = smaller_questions(call).flat_map(move |one| {
+        let moved = lengths_as_far_from_needed(call, &one).map(|lengths| Call {
+            lengths,
+            ..copy_of(&one)
         });
-    }
-    smaller
+        [moved, Some(one)].into_iter().flatten()
+    });
+    let shorter = shorter_lengths(call).into_iter().map(|lengths| Call {
+        lengths,
+        ..copy_of(call)
+    });
+    smaller.chain(shorter).chain(shorter_tables(call))
 }
 
 /// What refusals 7 and 8 ask for; nothing where the call is refused for another reason.
 pub fn needed_by(call: &Call) -> Option<Lengths> {
-    let judged = judge_call(&Call {
-        lengths: ENOUGH_FOR_ALL,
-        ..copy_of(call)
-    });
-    judged.ok().map(|question| lengths_needed(&question))
+    question_of(call).map(|question| lengths_needed(&question))
 }
 
 fn lengths_as_far_from_needed(call: &Call, smaller: &Call) -> Option<Lengths> {
@@ -107,32 +79,29 @@ fn lengths_as_far_from_needed(call: &Call, smaller: &Call) -> Option<Lengths> {
     })
 }
 
-fn copy_of(call: &Call) -> Call {
-    Call {
-        table: call.table.clone(),
-        ..*call
-    }
+/// One buffer shorter, down to what is needed where it holds that much.
+fn shorter_lengths(call: &Call) -> Vec<Lengths> {
+    let lengths = call.lengths;
+    let needed = needed_by(call).unwrap_or(Lengths {
+        log: 0,
+        paths: 0,
+        cut: 0,
+    });
+    let shorter = |length: usize, needed: usize| {
+        lower_numbers(if needed <= length { needed } else { 0 }, length)
+    };
+    let logs = shorter(lengths.log, needed.log).map(|log| Lengths { log, ..lengths });
+    let paths = shorter(lengths.paths, needed.paths).map(|paths| Lengths { paths, ..lengths });
+    let cuts = shorter(lengths.cut, needed.cut).map(|cut| Lengths { cut, ..lengths });
+    logs.chain(paths).chain(cuts).collect()
 }
 
-/// The later radios move down by one, S and T with them.
-fn without_radio(call: &Call, gone: usize) -> Call {
-    let moved = |radio: usize| radio - usize::from(radio > gone && radio < call.radios);
-    let table = (0..call.table.len())
-        .filter(|place| place / call.radios != gone && place % call.radios != gone)
-        .map(|place| call.table[place])
-        .collect();
-    Call {
-        radios: call.radios - 1,
-        table,
-        source: moved(call.source),
-        destination: moved(call.destination),
+/// A table whose length is refused is no map, and only its length counts.
+fn shorter_tables(call: &Call) -> impl Iterator<Item = Call> + '_ {
+    let is_refused = call.radios.checked_mul(call.radios) != Some(call.table.len());
+    let length = if is_refused { call.table.len() } else { 0 };
+    lower_numbers(0, length).map(|length| Call {
+        table: call.table[..length].to_vec(),
         ..*call
-    }
-}
-
-fn without_link(call: &Call, lower: usize, upper: usize) -> Call {
-    let mut smaller = copy_of(call);
-    smaller.table[lower * call.radios + upper] = 0;
-    smaller.table[upper * call.radios + lower] = 0;
-    smaller
+    })
 }

@@ -3,6 +3,7 @@
 
 use std::collections::HashSet;
 
+use crate::capture::write_capture;
 use crate::chance::Chance;
 use crate::map::{MOST_LINKS, MOST_WANTED};
 use crate::shapes::{number_of_radios, random_ends, random_pairs};
@@ -95,14 +96,14 @@ fn in_order(one: usize, other: usize) -> (usize, usize) {
 
 impl Plan {
     fn write(&self) -> Vec<u8> {
-        let mut text = format!(
-            "net\t{}\t{}\t{}\t{}\t{}\n",
-            self.capture, self.radios, self.source, self.destination, self.wanted
-        );
-        for (first, second) in &self.links {
-            text += &format!("link\t{first}\t{second}\n");
-        }
-        text.into_bytes()
+        let first_line = [
+            self.capture,
+            self.radios,
+            self.source,
+            self.destination,
+            self.wanted,
+        ];
+        write_capture(first_line, &self.links).into_bytes()
     }
 
     /// Puts one fault into the numbers; what is already at fault may be made sound by chance.
