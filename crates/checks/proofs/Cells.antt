@@ -4,11 +4,12 @@ use mathlib.Core.Bool.{Bool, true, false, not, _&&_, _||_, and-false}
 use mathlib.Core.List.{List}
 use Prim.Native.Nat.{ℕ, _+_, _*_, _≤_, _<_}
 use native.Mathlib.Decide.{ℕ-discrete, decLt}
-use native.Mathlib.Nat.{mul-le-mul-right, suc-mul, mul-add-div-right, mul-add-mod-self-right, div-eq-of-lt, mod-eq-of-lt, add-zero}
+use native.Mathlib.Nat.{mul-le-mul-right, suc-mul}
 use native.Mathlib.Omega.{arith}
 use lib.Dec.{eqb, ltb}
 use lib.ListN.{getD}
 use borrow.Author.Tests.{eq-eqb, ne-eqb, eqb-true, lt-ltb, le-ltb, ltb-false, not-false}
+use Rattle.basics.proofs.Places.{row-of, column-of}
 use Rattle.radios.specs.Bytes.{isOne}
 use Rattle.site.specs.Map.{linked}
 use Rattle.site.specs.Refusals.{bad, badAt, badCell}
@@ -89,16 +90,10 @@ linked-outside table n u v out = pick (decLt u n) (decLt v n)
 
 -- ---- row order
 
--- the places of n rows of n cells
-pub in-table : (n i j : ℕ) → i < n → j < n → i * n + j < n * n
-in-table n i j hi hj = omega (arith, mul-le-mul-right n hi, suc-mul i n)
-
 -- the cell of row i and column j has the place i·n+j
 pub at-place : (table : List ℕ) (n i j : ℕ) → j < n → badCell table n (i * n + j) ≡ badAt table n i j
 unfolding badCell
-at-place table n i j h =
-    ap₂ (badAt table n) (mul-add-div-right {m = n} (omega arith) i j ∙ ap (λ (x : ℕ). i + x) (div-eq-of-lt h) ∙ add-zero i)
-    (mul-add-mod-self-right i n j ∙ mod-eq-of-lt h)
+at-place table n i j h = ap₂ (badAt table n) (row-of n i j h) (column-of n i j h)
 
 -- an earlier place is in an earlier row, or in the same row and further left
 pub earlier : (n a b i j : ℕ) → n ≤ 64 → b < n → j < n → a * n + b < i * n + j → 64 * a + b < 64 * i + j

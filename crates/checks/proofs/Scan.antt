@@ -18,7 +18,8 @@ use Rattle.site.proofs.Exactly.{bad-cell, sound-table}
 use Rattle.site.proofs.Formula.{Even}
 use Rattle.site.proofs.Valid.{even-links}
 use Rattle.site.specs.declared.Finding.the-variants.{Sound, Bad}
-use Rattle.checks.proofs.Cells.{good-mirror, in-table, at-place, earlier}
+use Rattle.basics.proofs.Places.{in-table}
+use Rattle.checks.proofs.Cells.{good-mirror, at-place, earlier}
 
 -- what is known before the turn `here`: the cells before it are good. The scan meets a pair of radios at its lower radio's row
 abbrev pub Scanned : List ℕ → ℕ → ℕ → Type 0

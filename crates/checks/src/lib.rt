@@ -26,20 +26,6 @@ const AT_ONCE: usize = 8;
 // No sheet promises more paths than this.
 const MOST_PATHS: usize = 8;
 
-// The log takes so many bytes a message.
-const MESSAGE_BYTES: usize = 4;
-
-// The number of the cell of row i and column j. The product of two unknowns stands here alone.
-fn place(n: usize, i: usize, j: usize) -> usize
-    requires { ⌜ n ≤ mostRadios ⌝ }
-    requires { ⌜ i < n ⌝ }
-    requires { ⌜ j < n ⌝ }
-    ensures { λ r. ⌜ r ≡ i * n + j ⌝ }
-    ensures { λ r. ⌜ r < n * n ⌝ }
-{
-    i * n + j
-}
-
 // Is the cell of row i and column j bad: not 0 or 1, or on the diagonal and not 0, or unlike its mirror cell?
 fn is_bad(i: usize, j: usize, cell: u8, mirror: u8) -> bool
     ensures { λ r. ⌜ r ≡ bad i j cell mirror ⌝ }
@@ -143,7 +129,7 @@ fn row_of(table: &[u8], n: usize, i: usize) -> u64
     requires { ⌜ i < n ⌝ }
     ensures { λ r. ⌜ ((j : ℕ) → member j r ≡ (ltb j n && isOne (now (table .entry)) (i * n + j))) ⌝ }
 {
-    let start = place(n, i, 0);
+    let start = site::place(n, i, 0);
     let mut row = eights(table, start, n);
     for j in AT_ONCE * (n / AT_ONCE)..n {
         row = with_where(row, j, table[start + j]);
@@ -190,8 +176,8 @@ fn first_bad(table: &[u8], n: usize) -> Finding
     let mut found = Finding::Sound;
     'rows: for i in 0..n {
         for j in i..n {
-            let at = place(n, i, j);
-            let mirror = place(n, j, i);
+            let at = site::place(n, i, j);
+            let mirror = site::place(n, j, i);
             if is_bad(i, j, table[at], table[mirror]) {
                 found = Finding::Bad(at);
                 break 'rows;
@@ -273,7 +259,7 @@ pub fn judge(
         return Verdict::Wanted;
     }
     let most_messages = (2 * k + 1) * steps(rows, total, n, s, t);
-    if log < MESSAGE_BYTES * most_messages {
+    if log < site::MESSAGE_BYTES * most_messages {
         return Verdict::Log;
     }
     if paths < n - 2 + 3 * k || cut < k {

@@ -1,4 +1,11 @@
-// The words that the check of a call answers with. The definitions are in specs/, the code that answers in the crate `checks`.
+// What several parts of the code share: the words that the check of a call answers with, and where a cell stands. The
+// definitions are in specs/.
+ghost use mathlib.Core.Path.{_≡_};
+ghost use Prim.Native.Nat.{_+_, _*_, _≤_, _<_};
+ghost use Rattle.site.specs.Limits.{mostRadios};
+
+// The log takes so many bytes a message.
+pub const MESSAGE_BYTES: usize = 4;
 
 // What the check of the table finds: no fault, or the place of the first bad cell in row order.
 pub enum Finding {
@@ -17,4 +24,12 @@ pub enum Verdict {
     Wanted,
     Log,
     Lists,
+}
+
+// The number of the cell of row i and column j. The product of two unknowns stands here alone.
+pub fn place(n: usize, i: usize, j: usize) -> usize
+    requires { ⌜ (n ≤ mostRadios) × (i < n) × (j < n) ⌝ }
+    ensures { λ r. ⌜ (r ≡ i * n + j) × (r < n * n) ⌝ }
+{
+    i * n + j
 }

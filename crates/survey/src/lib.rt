@@ -17,9 +17,6 @@ use machine::Task;
 use outcome::Outcome;
 use site::Verdict;
 
-// The log takes so many bytes a message.
-const MESSAGE_BYTES: usize = 4;
-
 // Document 01's number of a verdict.
 fn number_of(verdict: Verdict) -> usize
     ensures { λ r. ⌜ r ≡ number verdict ⌝ }
@@ -98,10 +95,16 @@ fn accepted(
     ensures { λ r. ⌜ ((given : Given task (now (links .entry)) (now (log .entry)) (now (paths .entry)) (now (cut .entry))) → Left (given .call) r (now (log .exit)) (now (paths .exit)) (now (cut .exit))) ⌝ }
 {
     let mut entered = running::no_bytes();
-    let ran = running::run(task, log.len() / MESSAGE_BYTES, links, &mut entered, log);
+    let ran = running::run(
+        task,
+        log.len() / site::MESSAGE_BYTES,
+        links,
+        &mut entered,
+        log,
+    );
     let listed = paths::write_paths(log, ran.messages, task.s, paths);
     leave_cut(task, paths, listed.paths, &entered, cut);
-    lists::clear_from(log, MESSAGE_BYTES * ran.messages);
+    lists::clear_from(log, site::MESSAGE_BYTES * ran.messages);
     lists::clear_from(paths, listed.used);
     Outcome {
         refusal: 0,

@@ -4,7 +4,6 @@ use mathlib.Core.Bool.{Bool, true, false, _&&_, _||_, cond, and-false, or-true}
 use mathlib.Core.List.{List, [], _∷_, _++_, append-assoc, append-nil}
 use Prim.Native.Nat.{ℕ, _+_, _-_, _*_, _/_, _%_, _≤_, _<_}
 use native.Mathlib.Decide.{ℕ-discrete, decLt}
-use native.Mathlib.Nat.{mul-le-mul-right, suc-mul, mul-add-div-right, mul-add-mod-self-right, div-eq-of-lt, mod-eq-of-lt, add-zero}
 use native.Mathlib.Numerals.{add-one}
 use native.Mathlib.Omega.{arith}
 use lib.Dec.{eqb}
@@ -12,6 +11,7 @@ use lib.ListN.{length, getD, take, set, replicate, length-append, length-set, le
 use lib.Seq.{getD-set-same, getD-set-other, take-at}
 use borrow.Author.Tests.{eq-eqb, ne-eqb, lt-ltb, le-ltb, not-true, not-false}
 use Rattle.basics.proofs.Bools.{clash}
+use Rattle.basics.proofs.Places.{row-of, column-of, in-table}
 use Rattle.captures.specs.Words.{lineFeed}
 use Rattle.captures.specs.Capture.{lineOf, withLink, linksOf, came, badLink, badLine, linkedIn, tableWith, tableOf}
 use Rattle.captures.specs.Reading.{endOf, part}
@@ -22,17 +22,7 @@ use Rattle.texts.specs.Links.{badIn, Added, linksFrom, LinksRead}
 
 -- ---- places
 
--- the places of n rows of n cells
-pub in-table : (n i j : ℕ) → i < n → j < n → i * n + j < n * n
-in-table n i j hi hj = omega (arith, mul-le-mul-right n hi, suc-mul i n)
-
 -- a place is of one row and one column
-row-of : (n i j : ℕ) → j < n → (i * n + j) / n ≡ i
-row-of n i j h = mul-add-div-right {m = n} (omega arith) i j ∙ ap (λ (x : ℕ). i + x) (div-eq-of-lt h) ∙ add-zero i
-
-column-of : (n i j : ℕ) → j < n → (i * n + j) % n ≡ j
-column-of n i j h = mul-add-mod-self-right i n j ∙ mod-eq-of-lt h
-
 same-place : (n a b u v : ℕ) → b < n → v < n → a * n + b ≡ u * n + v → (a ≡ u) × (b ≡ v)
 same-place n a b u v hb hv e =
     (sym (row-of n a b hb) ∙ ap (λ (x : ℕ). x / n) e ∙ row-of n u v hv, sym (column-of n a b hb) ∙ ap (λ (x : ℕ). x % n) e ∙ column-of n u v hv)

@@ -58,14 +58,6 @@ fn clear(table: &mut [u8])
     }
 }
 
-// The number of the cell of row i and column j. The product of two unknowns stands here alone.
-fn place(n: usize, i: usize, j: usize) -> usize
-    requires { ⌜ (n ≤ mostRadios) × (i < n) × (j < n) ⌝ }
-    ensures { λ r. ⌜ (r ≡ i * n + j) × (r < n * n) ⌝ }
-{
-    i * n + j
-}
-
 // A link joins the table, in both its cells, and is told to be good; a bad one leaves the table as it was. A link between
 // two radios came before exactly if its cell is 1.
 fn add_link(n: usize, u: usize, v: usize, table: &mut [u8]) -> bool
@@ -75,11 +67,11 @@ fn add_link(n: usize, u: usize, v: usize, table: &mut [u8]) -> bool
     if u >= v || v >= n {
         return false;
     }
-    let cell = place(n, u, v);
+    let cell = site::place(n, u, v);
     if table[cell] == 1 {
         return false;
     }
-    let mirror = place(n, v, u);
+    let mirror = site::place(n, v, u);
     table[cell] = 1;
     table[mirror] = 1;
     true

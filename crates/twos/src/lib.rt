@@ -20,9 +20,6 @@ use machine::Task;
 use tokens::Kind;
 use tokens::Message;
 
-// The log takes so many bytes a message.
-const MESSAGE_BYTES: usize = 4;
-
 // What radio 1, asked in vain, adds to the two messages as one number: twice its in half's number 2.
 const ASKED_RADIO: u64 = 562949986975744;
 
@@ -60,7 +57,7 @@ pub fn put(log: &mut [u8], at: usize, message: Message, round: usize)
     ensures { λ r. ⌜ now (log .exit) ≡ written (now (log .entry)) (4 * at) message round ⌝ }
 {
     let kind = message.kind;
-    let place = MESSAGE_BYTES * at;
+    let place = site::MESSAGE_BYTES * at;
     log[place] = kind_number(kind);
     log[place + 1] = round as u8;
     log[place + 2] = message.from as u8;
@@ -72,7 +69,7 @@ fn put_both(log: &mut [u8], at: usize, both: u64)
     requires { ⌜ 4 * at + 8 ≤ length (now log) ⌝ }
     ensures { λ r. ⌜ now (log .exit) ≡ eight (now (log .entry)) (4 * at) both ⌝ }
 {
-    let place = MESSAGE_BYTES * at;
+    let place = site::MESSAGE_BYTES * at;
     log[place] = (both % 256) as u8;
     log[place + 1] = (both / 256 % 256) as u8;
     log[place + 2] = (both / 65536 % 256) as u8;

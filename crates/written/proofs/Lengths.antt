@@ -19,7 +19,7 @@ use Rattle.sheet_lines.proofs.Numbers.{digits-below-100, digits-below-100000}
 use Rattle.sheet_text.specs.Sheet.{mostBytes}
 use Rattle.written.specs.Writing.{netLine, linkLines, captureText, isLinkAt, linksFrom, linksIn}
 use Rattle.written.specs.Reading.{SoundMap}
-use Rattle.written.proofs.Places.{row-of, column-of}
+use Rattle.basics.proofs.Places.{row-of, column-of}
 use Rattle.written.proofs.MapBack.{links-below}
 
 -- ---- how many links a table has

@@ -25,7 +25,7 @@ use Rattle.site.proofs.Valid.{even-links}
 use Rattle.outcome.specs.Leaves.{outcome}
 use Rattle.captures.specs.Capture.{came, badLink, badLine, tableOf}
 use Rattle.sheet_text.specs.Sheet.{logLent, pathsLent, cutLent}
-use Rattle.written.proofs.Places.{row-of, column-of, in-table, row-below, column-below}
+use Rattle.basics.proofs.Places.{row-of, column-of, in-table, row-below, column-below}
 use Rattle.written.proofs.Tables.{isCell, inCells, table-of-long, table-of-cell}
 
 -- ---- 3: the table of good links has no bad cell
@@ -104,7 +104,7 @@ no-fault n links ord some place p = go (inCells n place links) refl
     row = row-below n place some p
 
     mirror-in : other n place < n * n
-    mirror-in = in-table n (place % n) (place / n) row (column-below n place some)
+    mirror-in = in-table n (place % n) (place / n) (column-below n place some) row
 
     back : other n (other n place) ≡ place
     back = rw (row-of n (place % n) (place / n) row, column-of n (place % n) (place / n) row) (div-add-mod' place n)

@@ -1,4 +1,3 @@
-pub mod Places
 pub mod Tables
 pub mod AnyOrder
 pub mod Decimals

@@ -19,7 +19,7 @@ use Rattle.site.proofs.Exactly.{sound-table}
 use Rattle.captures.specs.Capture.{came, badLink, badLine, tableOf}
 use Rattle.written.specs.Writing.{isLinkAt, linksFrom, linksIn}
 use Rattle.written.specs.Reading.{SoundMap, Fills}
-use Rattle.written.proofs.Places.{row-of, column-of, in-table, row-below, column-below}
+use Rattle.basics.proofs.Places.{row-of, column-of, in-table, row-below, column-below}
 use Rattle.written.proofs.Tables.{isCell, inCells, cell-of, table-of-long, table-of-cell}
 
 -- ---- the links in row order
@@ -170,7 +170,7 @@ module _ (n : ℕ) (table : List ℕ) (map : SoundMap n table) where
           (or-right (eqb cell (cell % n * n + cell / n)) (eqb cell (cell / n * n + cell % n)) (eq-eqb cell (cell / n * n + cell % n) (sym (div-add-mod' cell n))))
       pick (no c) (no d) = absurd (no-fault cell p (diagonal (omega arith) (λ e. omega arith)))
       pick (no c) (yes l) =
-          cells-of other cell (in-table n (cell % n) (cell / n) row (column-below n cell some)) (rw (other-row, other-column) l) (sym (mirrored cell p) ∙ one)
+          cells-of other cell (in-table n (cell % n) (cell / n) (column-below n cell some) row) (rw (other-row, other-column) l) (sym (mirrored cell p) ∙ one)
           (or-left (eqb cell (other % n * n + other / n)) (eqb cell (other / n * n + other % n)) (eq-eqb cell (other % n * n + other / n) (sym back)))
 
   -- so the links fill the table

@@ -2,7 +2,7 @@
 use mathlib.Core.Path.{_≡_}
 use Prim.Native.Nat.{_*_, _-_, _≤_}
 use native.Mathlib.Omega.{arith}
-use Rattle.checks.proofs.Cells.{in-table}
+use Rattle.basics.proofs.Places.{in-table}
 use Rattle.checks.proofs.Gathering.{Holds, cell-more}
 use Rattle.checks.proofs.row_of.Statement.{statement}
 use Rattle.checks.proofs.row_of.Tie as tie

@@ -1,10 +1,10 @@
--- `texts::place` meets its contract. Assumes nothing.
+-- `site::place` meets its contract. Assumes nothing.
 use Prim.Native.Nat.{ℕ, _*_, _≤_, _<_}
 use native.Mathlib.Nat.{mul-le-mul}
 use native.Mathlib.Omega.{arith}
-use Rattle.texts.proofs.Tables.{in-table}
-use Rattle.texts.proofs.place.Statement.{statement}
-use Rattle.texts.proofs.place.Tie as tie
+use Rattle.basics.proofs.Places.{in-table}
+use Rattle.site.proofs.place.Statement.{statement}
+use Rattle.site.proofs.place.Tie as tie
 
 small : {n i : ℕ} → n ≤ 64 → i < n → i * n ≤ 4096
 small {n} {i} hn hi = mul-le-mul {n₂ = 64} {m₂ = 64} (omega arith) hn
