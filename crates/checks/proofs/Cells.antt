@@ -12,7 +12,7 @@ use borrow.Author.Tests.{eq-eqb, ne-eqb, eqb-true, lt-ltb, le-ltb, ltb-false, no
 use Rattle.basics.proofs.Places.{row-of, column-of}
 use Rattle.radios.specs.Bytes.{isOne}
 use Rattle.site.specs.Map.{linked}
-use Rattle.site.specs.Refusals.{bad, badAt, badCell}
+use Rattle.refusals.specs.Refusals.{bad, badAt, badCell}
 
 -- ---- good cells
 

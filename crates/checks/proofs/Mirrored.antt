@@ -13,8 +13,8 @@ use Rattle.radios.specs.Bytes.{Bits, isOne}
 use Rattle.radios.specs.Member.{member}
 use Rattle.radios.proofs.Laws.{member-empty}
 use Rattle.site.specs.Map.{linked}
-use Rattle.site.specs.Refusals.{badAt, finding}
-use Rattle.site.specs.declared.Finding.the-variants.{Sound}
+use Rattle.refusals.specs.Refusals.{badAt, finding}
+use Rattle.refusals.specs.declared.Finding.the-variants.{Sound}
 use Rattle.checks.specs.Checked.{AgreeTo, Filled, joined}
 use Rattle.checks.proofs.Rows.{inRows}
 use Rattle.checks.proofs.Cells.{not-bad, linked-good, linked-apart, linked-itself, linked-outside}

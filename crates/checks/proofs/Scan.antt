@@ -12,12 +12,12 @@ use Rattle.basics.specs.Counting.{firstFrom}
 use Rattle.basics.proofs.Bools.{not-true→false}
 use Rattle.basics.proofs.Counting.{first-is}
 use Rattle.radios.specs.Bytes.{Bits}
-use Rattle.site.specs.Conditions.{no-bit}
-use Rattle.site.specs.Refusals.{bad, badAt, badCell, firstBad, finding}
-use Rattle.site.proofs.Exactly.{bad-cell, sound-table}
+use Rattle.refusals.specs.Conditions.{no-bit}
+use Rattle.refusals.specs.Refusals.{bad, badAt, badCell, firstBad, finding}
+use Rattle.refusals.proofs.Exactly.{bad-cell, sound-table}
 use Rattle.site.proofs.Formula.{Even}
-use Rattle.site.proofs.Valid.{even-links}
-use Rattle.site.specs.declared.Finding.the-variants.{Sound, Bad}
+use Rattle.refusals.proofs.Accepted.{even-links}
+use Rattle.refusals.specs.declared.Finding.the-variants.{Sound, Bad}
 use Rattle.basics.proofs.Places.{in-table}
 use Rattle.checks.proofs.Cells.{good-mirror, at-place, earlier}
 

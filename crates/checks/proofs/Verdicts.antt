@@ -14,10 +14,10 @@ use Rattle.basics.proofs.Bools.{tells-or, tells-below, tells-not-below, tells-e
 use Rattle.basics.proofs.Counting.{sum-ext}
 use Rattle.radios.specs.Member.{member}
 use Rattle.site.specs.Map.{links, degree, A}
-use Rattle.site.specs.Refusals.{Call, finding, refuse, verdict, logNeeds, pathsNeed, number}
-use Rattle.site.specs.declared.Finding.the-variants.{Sound, Bad}
-use Rattle.site.specs.declared.Verdict.{Verdict}
-use Rattle.site.specs.declared.Verdict.the-variants.{Accepted, Radios, TableLength, Cell, Links, Ends, Wanted, Log, Lists}
+use Rattle.refusals.specs.Refusals.{Call, finding, refuse, verdict, logNeeds, pathsNeed, number}
+use Rattle.refusals.specs.declared.Finding.the-variants.{Sound, Bad}
+use Rattle.refusals.specs.declared.Verdict.{Verdict}
+use Rattle.refusals.specs.declared.Verdict.the-variants.{Accepted, Radios, TableLength, Cell, Links, Ends, Wanted, Log, Lists}
 use Rattle.site.proofs.Formula.{Even, degrees-twice-links, steps-and-degrees, two-degrees, few-steps}
 use Rattle.checks.specs.Checked.{Filled, size, Countable, Judged}
 use Rattle.checks.proofs.Scan.{sound-even}

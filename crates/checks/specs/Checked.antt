@@ -10,11 +10,11 @@ use Rattle.basics.specs.Counting.{count}
 use Rattle.radios.specs.Member.{member}
 use Rattle.site.specs.Limits.{mostRadios, mostLinks}
 use Rattle.site.specs.Map.{linked}
-use Rattle.site.specs.Refusals.{Call, finding, verdict}
-use Rattle.site.specs.declared.Finding.{Finding}
-use Rattle.site.specs.declared.Finding.the-variants.{Sound}
-use Rattle.site.specs.declared.Verdict.{Verdict}
-use Rattle.site.specs.declared.Verdict.the-variants.{Accepted}
+use Rattle.refusals.specs.Refusals.{Call, finding, verdict}
+use Rattle.refusals.specs.declared.Finding.{Finding}
+use Rattle.refusals.specs.declared.Finding.the-variants.{Sound}
+use Rattle.refusals.specs.declared.Verdict.{Verdict}
+use Rattle.refusals.specs.declared.Verdict.the-variants.{Accepted}
 
 -- two sets have the same radios up to i
 abbrev pub AgreeTo : ℕ → ℕ → ℕ → Type 0

@@ -9,10 +9,10 @@ ghost use Rattle.basics.specs.Counting.{oneIf, sum};
 ghost use Rattle.radios.specs.Bytes.{Bits, isOne};
 ghost use Rattle.radios.specs.Member.{member};
 ghost use Rattle.site.specs.Limits.{mostRadios};
-ghost use Rattle.site.specs.Refusals.{bad, finding, callOf};
+ghost use Rattle.refusals.specs.Refusals.{bad, finding, callOf};
 ghost use Rattle.checks.specs.Checked.{AgreeTo, joined, size, Gathered, Checked, Countable, Judged};
-use site::Finding;
-use site::Verdict;
+use refusals::Finding;
+use refusals::Verdict;
 
 // A kit has at most so many radios: a set of them is one u64.
 const MOST_RADIOS: usize = 64;
@@ -259,7 +259,7 @@ pub fn judge(
         return Verdict::Wanted;
     }
     let most_messages = (2 * k + 1) * steps(rows, total, n, s, t);
-    if log < site::MESSAGE_BYTES * most_messages {
+    if log < log::MESSAGE_BYTES * most_messages {
         return Verdict::Log;
     }
     if paths < n - 2 + 3 * k || cut < k {

@@ -13,9 +13,10 @@ use borrow.Author.Tests.{eq-eqb, lt-ltb, le-ltb}
 use Rattle.basics.specs.Lists.{All}
 use Rattle.site.specs.Map.{Site, inHalf, outHalf, A}
 use Rattle.site.specs.Paths.{Path, DisjointPaths, Largest}
-use Rattle.site.specs.Refusals.{Call, mostMessages, verdict, number}
-use Rattle.site.proofs.Exactly.{no-place}
-use Rattle.site.proofs.Valid.{Valid, Room, accepted-valid, accepted-room}
+use Rattle.refusals.specs.Refusals.{Call, mostMessages, verdict, number}
+use Rattle.refusals.proofs.Exactly.{no-place}
+use Rattle.site.proofs.Valid.{Valid}
+use Rattle.refusals.proofs.Accepted.{Room, accepted-valid, accepted-room}
 use Rattle.tokens.specs.Rules.{Notes, won, carrying, start}
 use Rattle.tokens.specs.Run.{Entry, Run, notesOf, runFrom, pathsOf, cutOf}
 use Rattle.menger.proofs.Network.{Shut}
@@ -30,7 +31,10 @@ use Rattle.routes.proofs.Split.{split-of}
 use Rattle.routes.proofs.Most.{few-units, largest}
 use Rattle.rounds.proofs.Shows.{Leads}
 use Rattle.rounds.proofs.Depth.{round-played}
-use Rattle.outcome.specs.Leaves.{runOf, pathsFound, cutFound, logBytes, pathBytes, zerosAfter, outcome, logLeft, pathsLeft, cutLeft}
+use Rattle.outcome.specs.Leaves.{runOf, pathsFound, cutFound, outcome, logLeft, pathsLeft, cutLeft}
+use Rattle.log.specs.Bytes.{logBytes}
+use Rattle.path_lists.specs.Bytes.{pathBytes}
+use Rattle.buffers.specs.Zeros.{zerosAfter}
 use Rattle.demands.specs.Demand2.{Demand2}
 use Rattle.demands.specs.Demand3.{Demand3}
 use Rattle.demands.proofs.Told.{DonesLast}

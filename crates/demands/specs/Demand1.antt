@@ -3,8 +3,8 @@ use mathlib.Core.Path.{_≡_}
 use mathlib.Core.Logic.{_↔_}
 use Prim.Native.Nat.{ℕ, suc}
 use lib.ListN.{replicate}
-use Rattle.site.specs.Refusals.{Call}
-use Rattle.site.specs.Conditions.{FirstFault, conditions, Holds, First}
+use Rattle.refusals.specs.Refusals.{Call}
+use Rattle.refusals.specs.Conditions.{FirstFault, conditions, Holds, First}
 use Rattle.outcome.specs.Leaves.{outcome, logLeft, pathsLeft, cutLeft}
 
 -- zero counts, and zeros in every byte of the three buffers

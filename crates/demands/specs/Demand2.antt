@@ -7,7 +7,7 @@ use Prim.Native.Nat.{ℕ, min, _<_}
 use lib.ListN.{length}
 use Rattle.basics.specs.Lists.{InOrder}
 use Rattle.site.specs.Paths.{DisjointPaths, Largest, Meets, Cut}
-use Rattle.site.specs.Refusals.{Call}
+use Rattle.refusals.specs.Refusals.{Call}
 use Rattle.outcome.specs.Leaves.{pathsFound, cutFound, outcome}
 
 pub record Demand2 (call : Call) : Type 0 where

@@ -9,12 +9,14 @@ use lib.ListN.{length, take}
 use Rattle.basics.specs.Counting.{oneIf}
 use Rattle.site.specs.Map.{step, A}
 use Rattle.site.specs.Paths.{Largest}
-use Rattle.site.specs.Refusals.{Call}
+use Rattle.refusals.specs.Refusals.{Call}
 use Rattle.tokens.specs.declared.Kind.{Kind}
 use Rattle.tokens.specs.declared.Kind.the-variants.{Pdt, PdtB, Pmt, Done}
 use Rattle.tokens.specs.Rules.{over, innerStep}
 use Rattle.tokens.specs.Run.{Entry}
-use Rattle.outcome.specs.Leaves.{runOf, pathsFound, cutFound, logBytes, pathBytes, outcome}
+use Rattle.outcome.specs.Leaves.{runOf, pathsFound, cutFound, outcome}
+use Rattle.log.specs.Bytes.{logBytes}
+use Rattle.path_lists.specs.Bytes.{pathBytes}
 
 -- a discovery token, and the two replies to one
 abbrev pub isToken : Kind → Bool

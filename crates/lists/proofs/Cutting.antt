@@ -14,7 +14,7 @@ use Rattle.site.specs.Map.{Site, inHalf, outHalf}
 use Rattle.tokens.specs.Rules.{Entered}
 use Rattle.tokens.specs.Run.{atLink, cutItem, itemOf, cutOf}
 use Rattle.lists.specs.Cut.{Ends}
-use Rattle.paths.proofs.Stores.{store-next}
+use Rattle.buffers.proofs.Stores.{store-next}
 
 -- what each of a list has, the one at an index has
 pub all-at {ℓ} : {A : Type ℓ} (P : A → Type 0) (list : List A) (i : ℕ) (other : A) → All P list → i < length list → P (getD list i other)

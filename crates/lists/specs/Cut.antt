@@ -6,7 +6,7 @@ use lib.ListN.{length, take}
 use Rattle.basics.specs.Lists.{All}
 use Rattle.site.specs.Limits.{mostRadios}
 use Rattle.site.specs.Map.{Site}
-use Rattle.outcome.specs.Leaves.{pathBytes}
+use Rattle.path_lists.specs.Bytes.{pathBytes}
 
 -- the two ends of a site
 pub record Ends (s t : ℕ) (site : Site) : Type 0 where

@@ -12,16 +12,6 @@ ghost use Rattle.lists.specs.Cut.{Ends, Radios, Holds, Cuttable};
 // How a cut names the direct link between S and T: no radio has this number.
 const DIRECT_LINK: u8 = 255;
 
-// Every byte from this place on becomes 0, and those before it stay.
-pub fn clear_from(bytes: &mut [u8], from: usize)
-    requires { ⌜ from ≤ length (now bytes) ⌝ }
-    ensures { λ r. ⌜ now (bytes .exit) ≡ take from (now (bytes .entry)) ++ replicate (length (now (bytes .entry)) - from) 0 ⌝ }
-{
-    for i in from..bytes.len() {
-        bytes[i] = 0;
-    }
-}
-
 // The item of a path that leaves the entered halves over the link from u to v: never T, and the direct link where u is S.
 fn at_link(u: u8, v: u8, s: usize, t: usize) -> u8
     ensures { λ r. ⌜ r ≡ atLink (eqb v t) (eqb u s) u v ⌝ }

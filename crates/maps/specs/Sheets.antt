@@ -4,7 +4,7 @@ use mathlib.Core.List.{List, [], _∷_}
 use Prim.Native.Nat.{ℕ}
 use Rattle.basics.specs.Counting.{sum, firstOf}
 use Rattle.site.specs.Map.{linked, links, exists, passes, insideStep, linkStep, step, A}
-use Rattle.site.specs.Refusals.{bad, badAt, badCell, firstBad, finding, verdict}
+use Rattle.refusals.specs.Refusals.{bad, badAt, badCell, firstBad, finding, verdict}
 use Rattle.tokens.specs.Rules.{mayWalk, candidate, canTry, nextPlace, gets, nextMarked, passOn, release, carry, tries, search, reversed, grant, decline, goOn, innerStep}
 use Rattle.tokens.specs.Run.{runOn, walked, cutItem, itemOf}
 use Rattle.outcome.specs.Leaves.{runOf, pathsFound, cutFound, outcome}

@@ -1,22 +1,27 @@
 -- "What a run leaves" of document 01: the numbers and every byte of the three lent buffers, as functions of the call.
 use mathlib.Core.Bool.{cond}
-use mathlib.Core.List.{List, [], _∷_, _++_}
-use Prim.Native.Nat.{ℕ, _-_}
+use mathlib.Core.List.{List, []}
+use Prim.Native.Nat.{ℕ}
 use lib.Dec.{eqb, ltb}
-use lib.ListN.{length, replicate}
-use Rattle.site.specs.Refusals.{Call, verdict, number, placeOf, mostMessages}
-use Rattle.site.specs.declared.Verdict.{Verdict}
-use Rattle.tokens.specs.Rules.{start}
+use lib.ListN.{length}
+use Rattle.refusals.specs.Refusals.{Call, verdict, number, placeOf, mostMessages}
+use Rattle.refusals.specs.declared.Verdict.{Verdict}
+use Rattle.buffers.specs.Zeros.{zerosAfter}
+use Rattle.log.specs.Bytes.{logBytes}
+use Rattle.path_lists.specs.Bytes.{pathBytes}
+use Rattle.tokens.specs.Rules.{Plan, rising, unmarked, start}
 use Rattle.tokens.specs.Run.{Entry, Run, notesOf, runFrom, pathsOf, cutOf}
-use Rattle.tokens.specs.declared.Kind.{Kind}
-use Rattle.tokens.specs.declared.Kind.the-variants.{Pdt, PdtB, Pmt, Done}
 use Rattle.outcome.specs.declared.Outcome.{Outcome}
 
 -- ---- an accepted run
 
+-- what the run of a call is made from: rule 3's order, no path kept, all steps unmarked
+abbrev pub planOf : Call → Plan
+planOf call = record { site = call .site; k = call .k; order = rising; kept = 0; marks = unmarked }
+
 -- the run of a call: the budget is what the log can hold
 unfoldable pub runOf : Call → Run
-runOf call = runFrom (call .site) (call .k) (mostMessages (call .site) (call .k)) (start (call .site))
+runOf call = runFrom (planOf call) (mostMessages (call .site) (call .k)) (start (planOf call))
 
 unfoldable pub pathsFound : Call → List (List ℕ)
 pathsFound call = pathsOf (call .site) (runOf call .log)
@@ -26,29 +31,6 @@ unfoldable pub cutFound : Call → List ℕ
 cutFound call =
     let notes = notesOf (runOf call .last) in
     cond (ltb (notes .found) (call .k)) (cutOf (call .site) (notes .entered) (pathsFound call)) []
-
--- ---- bytes
-
--- document 01's number of each kind of message
-abbrev pub kindNumber : Kind → ℕ
-kindNumber Pdt = 1
-kindNumber PdtB = 2
-kindNumber Pmt = 3
-kindNumber Done = 4
-
--- four bytes a message: kind, round, sending half, receiving half
-unfoldable pub logBytes : List Entry → List ℕ
-logBytes [] = []
-logBytes (e ∷ log) = kindNumber (e .message .kind) ∷ e .round ∷ e .message .from ∷ e .message .to ∷ logBytes log
-
--- for each path its number of radios, then the radios
-unfoldable pub pathBytes : List (List ℕ) → List ℕ
-pathBytes [] = []
-pathBytes (path ∷ paths) = length path ∷ path ++ pathBytes paths
-
--- the used bytes at the front of a buffer, and 0 in all bytes past them
-abbrev pub zerosAfter : ℕ → List ℕ → List ℕ
-zerosAfter size used = used ++ replicate (size - length used) 0
 
 -- ---- what a call leaves, refusals first
 

@@ -9,7 +9,7 @@ use Rattle.basics.specs.Lists.{All}
 use Rattle.site.specs.Limits.{mostRadios}
 use Rattle.site.specs.Map.{Site, outHalf, radioOf}
 use Rattle.tokens.specs.Run.{Entry, Walked, walked, pathsOf}
-use Rattle.outcome.specs.Leaves.{pathBytes}
+use Rattle.path_lists.specs.Bytes.{pathBytes}
 use Rattle.paths.specs.declared.Walk.{Walk}
 use Rattle.paths.specs.Listing.{LogOf, Arrives, Listable, PathsLeft, FirstDone, NextArrival, Walks, Startable, PathLeft}
 use Rattle.paths.proofs.Log.{done-goes-on, none-before}

@@ -16,7 +16,7 @@ use Rattle.tokens.specs.Rules.{message}
 use Rattle.tokens.specs.Run.{Entry, Walked, reaches, heard, walked}
 use Rattle.tokens.specs.declared.Kind.{Kind}
 use Rattle.tokens.specs.declared.Kind.the-variants.{Pdt, PdtB, Pmt, Done}
-use Rattle.outcome.specs.Leaves.{kindNumber, logBytes}
+use Rattle.log.specs.Bytes.{kindNumber, logBytes}
 use Rattle.paths.specs.Listing.{LogOf, DonesLast, Arrives}
 
 -- ---- four bytes a message

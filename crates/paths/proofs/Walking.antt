@@ -11,7 +11,7 @@ use lib.Seq.{drop-set-lt}
 use Rattle.site.specs.Map.{Site, outHalf, radioOf}
 use Rattle.tokens.specs.Run.{Entry, Walked, reaches, walked}
 use Rattle.paths.specs.Listing.{LogOf, Arrives, NextArrival, Walks, PathLeft}
-use Rattle.paths.proofs.Stores.{store-next}
+use Rattle.buffers.proofs.Stores.{store-next}
 use Rattle.paths.proofs.Log.{arrived}
 
 -- ---- S and the first radio, stored at 1 and 2

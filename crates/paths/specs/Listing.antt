@@ -8,7 +8,8 @@ use Rattle.site.specs.Limits.{mostRadios}
 use Rattle.site.specs.Map.{Site, outHalf}
 use Rattle.tokens.specs.declared.Kind.the-variants.{Done}
 use Rattle.tokens.specs.Run.{Entry, walked, pathsOf}
-use Rattle.outcome.specs.Leaves.{kindNumber, logBytes, pathBytes}
+use Rattle.log.specs.Bytes.{kindNumber, logBytes}
+use Rattle.path_lists.specs.Bytes.{pathBytes}
 use Rattle.paths.specs.declared.Walk.{Walk}
 use Rattle.paths.specs.declared.Listed.{Listed}
 

@@ -33,7 +33,7 @@ fn first_done(log: &[u8], messages: usize) -> usize
     ensures { λ r. ⌜ FirstDone (now (log .entry)) messages r ⌝ }
 {
     let mut at = messages;
-    while at > 0 && log[site::MESSAGE_BYTES * (at - 1)] == DONE {
+    while at > 0 && log[log::MESSAGE_BYTES * (at - 1)] == DONE {
         at -= 1;
     }
     at
@@ -46,8 +46,8 @@ fn next_arrival(log: &[u8], from: usize, messages: usize) -> usize
     ensures { λ r. ⌜ NextArrival (now (log .entry)) from messages r ⌝ }
 {
     for at in from..messages {
-        let kind = log[site::MESSAGE_BYTES * at];
-        let to = log[site::MESSAGE_BYTES * at + RECEIVING_HALF];
+        let kind = log[log::MESSAGE_BYTES * at];
+        let to = log[log::MESSAGE_BYTES * at + RECEIVING_HALF];
         if kind == DONE && to % 2 == 0 {
             return at;
         }
@@ -62,14 +62,14 @@ fn write_path(rest: &mut [u8], log: &[u8], at: usize, messages: usize, s: usize)
     ensures { λ r. ⌜ WalkEnded (now (log .entry)) at messages s (now (rest .entry)) (now (rest .exit)) r ⌝ }
 {
     rest[1] = s as u8;
-    rest[2] = log[site::MESSAGE_BYTES * at + RECEIVING_HALF] / 2;
+    rest[2] = log[log::MESSAGE_BYTES * at + RECEIVING_HALF] / 2;
     let mut used = 3;
     let mut next = next_arrival(log, at + 1, messages);
     while next < messages {
-        if log[site::MESSAGE_BYTES * next + SENDING_HALF] as usize == 2 * s + 1 {
+        if log[log::MESSAGE_BYTES * next + SENDING_HALF] as usize == 2 * s + 1 {
             break;
         }
-        rest[used] = log[site::MESSAGE_BYTES * next + RECEIVING_HALF] / 2;
+        rest[used] = log[log::MESSAGE_BYTES * next + RECEIVING_HALF] / 2;
         used += 1;
         next = next_arrival(log, next + 1, messages);
     }
@@ -89,7 +89,7 @@ pub fn write_paths(log: &[u8], messages: usize, s: usize, paths: &mut [u8]) -> L
     let mut at = next_arrival(log, first_done(log, messages), messages);
     while at < messages {
         // Before S sends its first DONE no path is under way.
-        if log[site::MESSAGE_BYTES * at + SENDING_HALF] as usize != 2 * s + 1 {
+        if log[log::MESSAGE_BYTES * at + SENDING_HALF] as usize != 2 * s + 1 {
             at = next_arrival(log, at + 1, messages);
             continue;
         }

@@ -8,11 +8,13 @@ use lib.Dec.{eqb}
 use lib.ListN.{length, getD}
 use Rattle.basics.specs.Counting.{oneIf, sum, firstOf}
 use Rattle.site.specs.Map.{linked, links, exists, passes, insideStep, linkStep, step, A}
-use Rattle.site.specs.Refusals.{Call, callOf, bad, badAt, badCell, firstBad, finding, verdict}
+use Rattle.refusals.specs.Refusals.{Call, callOf, bad, badAt, badCell, firstBad, finding, verdict}
 use Rattle.tokens.specs.Rules.{mayWalk, candidate, canTry, nextPlace, gets, nextMarked, passOn, release, carry, tries, search, reversed, grant, decline, goOn, innerStep}
 use Rattle.tokens.specs.Run.{runOn, walked, cutItem, itemOf}
 use Rattle.outcome.specs.declared.Outcome.{Outcome}
-use Rattle.outcome.specs.Leaves.{runOf, pathsFound, cutFound, pathBytes, logBytes, outcome, logLeft, pathsLeft, cutLeft}
+use Rattle.outcome.specs.Leaves.{runOf, pathsFound, cutFound, outcome, logLeft, pathsLeft, cutLeft}
+use Rattle.path_lists.specs.Bytes.{pathBytes}
+use Rattle.log.specs.Bytes.{logBytes}
 use Rattle.demands.specs.Promise.{Promise}
 
 -- two radios that are linked, and two that are not; one path is wanted, and the buffers are 12, 3 and 1 bytes long

@@ -7,7 +7,7 @@ use native.Mathlib.Numerals.{add-one}
 use native.Mathlib.Omega.{arith}
 use lib.ListN.{length, getD, take, drop, length-append, length-drop, take-append-drop, drop-of-length-le}
 use lib.Seq.{getD-drop, drop-drop, take-append-seam, drop-append-seam}
-use Rattle.outcome.specs.Leaves.{pathBytes}
+use Rattle.path_lists.specs.Bytes.{pathBytes}
 use Rattle.sheet_lines.specs.Lines.{pathLines}
 use Rattle.sheet_lines.specs.Written.{Written, PathList}
 use Rattle.sheet_lines.proofs.Writing.{Partly, partly-none, partly-room, partly-more, partly-all, room-first, left-opened}

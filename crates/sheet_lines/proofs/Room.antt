@@ -11,7 +11,7 @@ use Rattle.basics.specs.Lists.{All}
 use Rattle.site.specs.Limits.{directLink}
 use Rattle.captures.specs.Words.{full, short, link}
 use Rattle.captures.specs.Text.{decimal}
-use Rattle.outcome.specs.Leaves.{pathBytes}
+use Rattle.path_lists.specs.Bytes.{pathBytes}
 use Rattle.sheet_lines.specs.Lines.{refusedLine, reportLine, radioFields, pathLines, itemWord, cutLines}
 use Rattle.sheet_lines.specs.Written.{PathList}
 use Rattle.sheet_lines.proofs.Numbers.{digits-below-100, digits-below-1000, digits-below-100000}

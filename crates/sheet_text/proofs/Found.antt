@@ -11,10 +11,12 @@ use lib.Seq.{take-at}
 use borrow.Author.Tests.{eq-eqb}
 use Rattle.basics.specs.Lists.{InOrder}
 use Rattle.site.specs.Paths.{Meets}
-use Rattle.site.specs.Refusals.{Call, number, verdict}
-use Rattle.site.proofs.Valid.{Room, accepted-room}
+use Rattle.refusals.specs.Refusals.{Call, number, verdict}
+use Rattle.refusals.proofs.Accepted.{Room, accepted-room}
 use Rattle.outcome.specs.declared.Outcome.{Outcome}
-use Rattle.outcome.specs.Leaves.{pathsFound, cutFound, pathBytes, zerosAfter, cutLeft, outcome}
+use Rattle.outcome.specs.Leaves.{pathsFound, cutFound, cutLeft, outcome}
+use Rattle.path_lists.specs.Bytes.{pathBytes}
+use Rattle.buffers.specs.Zeros.{zerosAfter}
 use Rattle.demands.specs.Demand2.{Demand2}
 use Rattle.demands.specs.Demand3.{Demand3}
 use Rattle.demands.proofs.Demands.{paths-left}

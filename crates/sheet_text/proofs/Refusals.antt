@@ -10,9 +10,9 @@ use lib.Dec.{eqb}
 use lib.ListN.{length, drop, length-drop}
 use borrow.Author.Tests.{ne-eqb}
 use Rattle.site.specs.Limits.{mostRadios}
-use Rattle.site.specs.Refusals.{Call, number, verdict}
-use Rattle.site.specs.declared.Verdict.{Verdict}
-use Rattle.site.specs.declared.Verdict.the-variants.{Accepted, Radios, TableLength, Cell, Links, Ends, Wanted, Log, Lists}
+use Rattle.refusals.specs.Refusals.{Call, number, verdict}
+use Rattle.refusals.specs.declared.Verdict.{Verdict}
+use Rattle.refusals.specs.declared.Verdict.the-variants.{Accepted, Radios, TableLength, Cell, Links, Ends, Wanted, Log, Lists}
 use Rattle.outcome.specs.declared.Outcome.{Outcome}
 use Rattle.outcome.specs.Leaves.{outcome}
 use Rattle.demands.specs.Demand1.{Demand1}

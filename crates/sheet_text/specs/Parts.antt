@@ -3,7 +3,7 @@ use mathlib.Core.Path.{_≡_}
 use mathlib.Core.List.{List}
 use Prim.Native.Nat.{ℕ, _≤_}
 use lib.ListN.{length}
-use Rattle.site.specs.Refusals.{Call, callOf}
+use Rattle.refusals.specs.Refusals.{Call, callOf}
 use Rattle.outcome.specs.declared.Outcome.{Outcome}
 use Rattle.demands.specs.Promise.{Promise}
 use Rattle.captures.specs.Text.{mostNumber}

@@ -6,7 +6,7 @@ use Prim.Native.Nat.{ℕ}
 use lib.Dec.{eqb, ltb}
 use lib.ListN.{length, getD}
 use Rattle.site.specs.Limits.{mostRadios}
-use Rattle.site.specs.Refusals.{Call, callOf}
+use Rattle.refusals.specs.Refusals.{Call, callOf}
 use Rattle.outcome.specs.Leaves.{pathsFound, cutFound, outcome}
 use Rattle.captures.specs.Words.{lineFeed}
 use Rattle.captures.specs.Text.{pieces}

@@ -4,7 +4,7 @@ ghost use mathlib.Core.List.{tail, []};
 ghost use Prim.Native.Nat.{_*_, _≤_};
 ghost use lib.ListN.{length, getD};
 ghost use Rattle.site.specs.Limits.{mostRadios};
-ghost use Rattle.outcome.specs.Leaves.{zerosAfter};
+ghost use Rattle.buffers.specs.Zeros.{zerosAfter};
 ghost use Rattle.captures.specs.Words.{lineFeed};
 ghost use Rattle.captures.specs.Text.{pieces, mostNumber};
 ghost use Rattle.captures.specs.Capture.{headOf, wrongLine};
@@ -176,10 +176,10 @@ pub fn write_sheet(text: &[u8], out: &mut [u8]) -> usize
     ensures { λ r. ⌜ r ≤ length (now (out .exit)) ⌝ }
 {
     if out.len() < SHEET_ROOM {
-        lists::clear_from(out, 0);
+        buffers::clear_from(out, 0);
         return 0;
     }
     let used = put_sheet(text, out);
-    lists::clear_from(out, used);
+    buffers::clear_from(out, used);
     used
 }

@@ -1,4 +1,3 @@
-pub mod Exactly
 pub mod Formula
 pub mod Steps
 pub mod Valid

@@ -1,5 +1,3 @@
 pub mod Limits
 pub mod Map
 pub mod Paths
-pub mod Refusals
-pub mod Conditions

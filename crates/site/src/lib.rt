@@ -1,30 +1,22 @@
-// What several parts of the code share: the words that the check of a call answers with, and where a cell stands. The
-// definitions are in specs/.
+// What several parts of the code share: the limits of document 01, and where a cell stands. The definitions are in specs/.
 ghost use mathlib.Core.Path.{_≡_};
 ghost use Prim.Native.Nat.{_+_, _*_, _≤_, _<_};
 ghost use Rattle.site.specs.Limits.{mostRadios};
 
-// The log takes so many bytes a message.
-pub const MESSAGE_BYTES: usize = 4;
+// A kit has at most so many radios: a set of them is one u64.
+pub const MOST_RADIOS: usize = 64;
 
-// What the check of the table finds: no fault, or the place of the first bad cell in row order.
-pub enum Finding {
-    Sound,
-    Bad(usize),
-}
+// There are at most so many halves, two to a radio.
+pub const MOST_HALVES: usize = 128;
 
-// What a call is told before any token is sent: accepted, or the first reason against it, in the order of document 01.
-pub enum Verdict {
-    Accepted,
-    Radios,
-    TableLength,
-    Cell(usize),
-    Links,
-    Ends,
-    Wanted,
-    Log,
-    Lists,
-}
+// So many links keep the log of any run below 40,000 bytes.
+pub const MOST_LINKS: usize = 256;
+
+// No sheet promises more paths than this.
+pub const MOST_PATHS: usize = 8;
+
+// How a cut names the direct link between S and T: no radio has this number.
+pub const DIRECT_LINK: u8 = 255;
 
 // The number of the cell of row i and column j. The product of two unknowns stands here alone.
 pub fn place(n: usize, i: usize, j: usize) -> usize

@@ -4,9 +4,9 @@ use mathlib.Core.List.{List}
 use Prim.Native.Nat.{ℕ}
 use native.Mathlib.Omega.{arith}
 use lib.ListN.{length, replicate}
-use Rattle.site.specs.Refusals.{Call, callOf, number, placeOf}
-use Rattle.site.specs.declared.Verdict.{Verdict}
-use Rattle.site.specs.declared.Verdict.the-variants.{Accepted, Radios, TableLength, Cell, Links, Ends, Wanted, Log, Lists}
+use Rattle.refusals.specs.Refusals.{Call, callOf, number, placeOf}
+use Rattle.refusals.specs.declared.Verdict.{Verdict}
+use Rattle.refusals.specs.declared.Verdict.the-variants.{Accepted, Radios, TableLength, Cell, Links, Ends, Wanted, Log, Lists}
 use Rattle.outcome.specs.declared.Outcome.{Outcome}
 use Rattle.outcome.specs.Leaves.{outcome}
 use Rattle.checks.specs.Checked.{Judged}

@@ -9,7 +9,7 @@ use lib.Dec.{ltb}
 use lib.ListN.{length, take, drop, replicate, length-append, length-drop}
 use lib.Seq.{take-at}
 use borrow.Author.Tests.{lt-ltb, le-ltb}
-use Rattle.outcome.specs.Leaves.{zerosAfter}
+use Rattle.buffers.specs.Zeros.{zerosAfter}
 
 -- a buffer that is cleared from its front on
 pub all-zeros : (before : List ℕ) → take 0 before ++ replicate (length before - 0) 0 ≡ replicate (length before) 0

@@ -12,11 +12,15 @@ use Rattle.basics.proofs.Lists.{all-follow, all-from}
 use Rattle.site.specs.Limits.{mostRadios}
 use Rattle.site.specs.Map.{Site}
 use Rattle.site.specs.Paths.{Path}
-use Rattle.site.specs.Refusals.{Call, mostMessages, verdict, number}
-use Rattle.site.proofs.Valid.{Valid, Room, accepted-valid, accepted-room}
+use Rattle.refusals.specs.Refusals.{Call, mostMessages, verdict, number}
+use Rattle.site.proofs.Valid.{Valid}
+use Rattle.refusals.proofs.Accepted.{Room, accepted-valid, accepted-room}
 use Rattle.tokens.specs.Rules.{start}
 use Rattle.tokens.specs.Run.{notesOf, runFrom, cutOf}
-use Rattle.outcome.specs.Leaves.{runOf, pathsFound, logBytes, pathBytes, zerosAfter, outcome}
+use Rattle.outcome.specs.Leaves.{runOf, pathsFound, outcome}
+use Rattle.log.specs.Bytes.{logBytes}
+use Rattle.path_lists.specs.Bytes.{pathBytes}
+use Rattle.buffers.specs.Zeros.{zerosAfter}
 use Rattle.demands.proofs.Demands.{log-bytes, any-budget, at-most, demand-2, demand-3, numbers-left, log-left, paths-left, cut-left, paths-of-the-map, log-ends-with-dones}
 use Rattle.routes.proofs.Duality.{path-below, path-few}
 use Rattle.machine.specs.declared.Task.{Task}

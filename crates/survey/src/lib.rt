@@ -6,16 +6,16 @@ ghost use Prim.Native.Nat.{ℕ};
 ghost use lib.ListN.{length, replicate};
 ghost use lib.Dec.{ltb};
 ghost use Rattle.site.specs.Map.{Site};
-ghost use Rattle.site.specs.Refusals.{callOf, number, placeOf};
+ghost use Rattle.refusals.specs.Refusals.{callOf, number, placeOf};
 ghost use Rattle.tokens.specs.Run.{cutOf};
-ghost use Rattle.outcome.specs.Leaves.{zerosAfter};
+ghost use Rattle.buffers.specs.Zeros.{zerosAfter};
 ghost use Rattle.machine.specs.View.{enteredOf};
 ghost use Rattle.lists.specs.Cut.{Ends, Holds, Cuttable};
 ghost use Rattle.demands.specs.Promise.{Promise};
 ghost use Rattle.survey.specs.Parts.{Given, Left};
 use machine::Task;
 use outcome::Outcome;
-use site::Verdict;
+use refusals::Verdict;
 
 // Document 01's number of a verdict.
 fn number_of(verdict: Verdict) -> usize
@@ -58,9 +58,9 @@ fn refused(verdict: Verdict, log: &mut [u8], paths: &mut [u8], cut: &mut [u8]) -
     ensures { λ r. ⌜ now (paths .exit) ≡ replicate (length (now (paths .entry))) 0 ⌝ }
     ensures { λ r. ⌜ now (cut .exit) ≡ replicate (length (now (cut .entry))) 0 ⌝ }
 {
-    lists::clear_from(log, 0);
-    lists::clear_from(paths, 0);
-    lists::clear_from(cut, 0);
+    buffers::clear_from(log, 0);
+    buffers::clear_from(paths, 0);
+    buffers::clear_from(cut, 0);
     Outcome {
         refusal: number_of(verdict),
         place: place_of(verdict),
@@ -77,10 +77,10 @@ fn leave_cut(task: Task, paths: &[u8], count: usize, entered: &[u8; 128], cut: &
 {
     if count < task.k {
         lists::write_cut(paths, count, entered, task.s, task.t, cut);
-        lists::clear_from(cut, count);
+        buffers::clear_from(cut, count);
         return;
     }
-    lists::clear_from(cut, 0);
+    buffers::clear_from(cut, 0);
 }
 
 // An accepted call: the run fills the log, the paths are those that its DONE messages tell, and zeros stand past all that is used.
@@ -97,15 +97,15 @@ fn accepted(
     let mut entered = running::no_bytes();
     let ran = running::run(
         task,
-        log.len() / site::MESSAGE_BYTES,
+        log.len() / log::MESSAGE_BYTES,
         links,
         &mut entered,
         log,
     );
     let listed = paths::write_paths(log, ran.messages, task.s, paths);
     leave_cut(task, paths, listed.paths, &entered, cut);
-    lists::clear_from(log, site::MESSAGE_BYTES * ran.messages);
-    lists::clear_from(paths, listed.used);
+    buffers::clear_from(log, log::MESSAGE_BYTES * ran.messages);
+    buffers::clear_from(paths, listed.used);
     Outcome {
         refusal: 0,
         place: 0,

@@ -12,11 +12,21 @@ use Rattle.tokens.specs.declared.Message.{Message}
 abbrev pub message : Kind → ℕ → ℕ → Message
 message kind from to = record { kind = kind; from = from; to = to }
 
--- ---- what the machine keeps
+-- ---- what a run is made from
 
 -- the step from half a to half b is marked
 abbrev pub Marks : Type 0
 Marks = ℕ → ℕ → Bool
+
+-- the map with its two ends, the number of paths wanted, rule 3's order of trying, and what the run starts with: so many paths, and their marks
+pub record Plan : Type 0 where
+  pub site : Site
+  pub k : ℕ
+  pub order : ℕ → ℕ
+  pub kept : ℕ
+  pub marks : Marks
+
+-- ---- what the machine keeps
 
 -- half h has been entered in this round
 abbrev pub Entered : Type 0
@@ -71,17 +81,21 @@ justS site = waits (outHalf (site .S)) 0 nobody
 unfoldable pub mayWalk : Site → Marks → ℕ → ℕ → Bool
 mayWalk site marks x y = (step site x y && not (marks x y)) || (step site y x && marks y x)
 
--- the half that stands at a place of half h's order: other radios by rising number, then its own other half last
+-- what half h may try is numbered: a number below n is another radio, n is its own other half
 unfoldable pub candidate : Site → ℕ → ℕ → ℕ
-candidate site h place = cond (ltb place (site .n)) (cond (isOut h) (inHalf place) (outHalf place)) (cond (isOut h) (h - 1) (h + 1))
+candidate site h number = cond (ltb number (site .n)) (cond (isOut h) (inHalf number) (outHalf number)) (cond (isOut h) (h - 1) (h + 1))
 
--- half h can walk now to what stands at that place. Its own radio's number is no other radio's, and is passed over
+-- half h can walk to that now. Its own radio's number is no other radio's, and is passed over
 unfoldable pub canTry : Site → Marks → ℕ → ℕ → Bool
-canTry site marks h place = not (eqb place (radioOf h)) && mayWalk site marks h (candidate site h place)
+canTry site marks h number = not (eqb number (radioOf h)) && mayWalk site marks h (candidate site h number)
+
+-- the order of trying gives the number at each of the places 0 to n: other radios by rising number, then its own other half last
+abbrev pub rising : ℕ → ℕ
+rising place = place
 
 -- the first place from this one on that half h can walk to now; n + 1 where there is none
-unfoldable pub nextPlace : Site → Marks → ℕ → ℕ → ℕ
-nextPlace site marks h place = firstFrom (canTry site marks h) place (site .n + 1)
+unfoldable pub nextPlace : Plan → Marks → ℕ → ℕ → ℕ
+nextPlace plan marks h place = firstFrom (λ i. canTry (plan .site) marks h (plan .order i)) place (plan .site .n + 1)
 
 -- ---- rules 4 and 5
 
@@ -117,16 +131,16 @@ carry false false site v h notes = sends (message Done h (h + 1)) (carrying v (h
 -- ---- rules 3 and 6: a half that searches
 
 -- half h has found the place of its next PDT, or none: then it replies PDT_B, and S fails the round
-unfoldable pub tries : Bool → Site → ℕ → ℕ → Notes → Waiting → Next
-tries true site h place notes rest =
-    let y = candidate site h place in
-    sends (message Pdt h y) (gets (eqb y (inHalf (site .T))) (notes .entered y) y notes (waits h (suc place) rest))
-tries false site h place notes nobody = release site 0 notes
-tries false site h place notes (waits asker i rest) = sends (message PdtB h asker) (searching notes (waits asker i rest))
+unfoldable pub tries : Bool → Plan → ℕ → ℕ → Notes → Waiting → Next
+tries true plan h place notes rest =
+    let y = candidate (plan .site) h (plan .order place) in
+    sends (message Pdt h y) (gets (eqb y (inHalf (plan .site .T))) (notes .entered y) y notes (waits h (suc place) rest))
+tries false plan h place notes nobody = release (plan .site) 0 notes
+tries false plan h place notes (waits asker i rest) = sends (message PdtB h asker) (searching notes (waits asker i rest))
 
-unfoldable pub search : Site → Notes → Waiting → Next
-search site notes nobody = over
-search site notes (waits h i rest) = let place = nextPlace site (notes .marks) h i in tries (ltb place (site .n + 1)) site h place notes rest
+unfoldable pub search : Plan → Notes → Waiting → Next
+search plan notes nobody = over
+search plan notes (waits h i rest) = let place = nextPlace plan (notes .marks) h i in tries (ltb place (plan .site .n + 1)) plan h place notes rest
 
 -- ---- rule 6: PMT
 
@@ -155,19 +169,27 @@ decline y notes (waits h i rest) = sends (message PdtB y h) (searching notes (wa
 -- ---- rule 1
 
 -- a round is won: another starts while fewer than k paths are found, else S sends DONE
-unfoldable pub goOn : Bool → Site → Notes → Next
-goOn true site notes = search site (begun site notes) (justS site)
-goOn false site notes = release site 0 notes
+unfoldable pub goOn : Bool → Plan → Notes → Next
+goOn true plan notes = search plan (begun (plan .site) notes) (justS (plan .site))
+goOn false plan notes = release (plan .site) 0 notes
 
 -- ---- one inner step
 
-unfoldable pub innerStep : Site → ℕ → State → Next
-innerStep site k (searching notes waiting) = search site notes waiting
-innerStep site k (declining y notes waiting) = decline y notes waiting
-innerStep site k (granting y notes waiting) = grant site y notes waiting
-innerStep site k (won notes) = goOn (ltb (notes .found) k) site notes
-innerStep site k (carrying v h notes) = carry (eqb h (inHalf (site .T))) (isOut h) site v h notes
+unfoldable pub innerStep : Plan → State → Next
+innerStep plan (searching notes waiting) = search plan notes waiting
+innerStep plan (declining y notes waiting) = decline y notes waiting
+innerStep plan (granting y notes waiting) = grant (plan .site) y notes waiting
+innerStep plan (won notes) = goOn (ltb (notes .found) (plan .k)) plan notes
+innerStep plan (carrying v h notes) = carry (eqb h (inHalf (plan .site .T))) (isOut h) (plan .site) v h notes
 
--- at the start all steps are unmarked, and round 1 begins
-abbrev pub start : Site → State
-start site = searching (begun site (record { round = 0; found = 0; marks = λ a b. false; entered = λ h. false })) (justS site)
+-- before the first round
+abbrev pub atFirst : Plan → Notes
+atFirst plan = record { round = 0; found = plan .kept; marks = plan .marks; entered = λ h. false }
+
+-- round 1 begins at once, if the paths kept are not all that are wanted
+unfoldable pub start : Plan → State
+start plan = cond (ltb (plan .kept) (plan .k)) (searching (begun (plan .site) (atFirst plan)) (justS (plan .site))) (won (atFirst plan))
+
+-- at the start all steps are unmarked
+abbrev pub unmarked : Marks
+unmarked a b = false

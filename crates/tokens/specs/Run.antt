@@ -8,7 +8,7 @@ use Rattle.site.specs.Map.{Site, inHalf, outHalf, radioOf, isOut}
 use Rattle.tokens.specs.declared.Kind.{Kind}
 use Rattle.tokens.specs.declared.Kind.the-variants.{Pdt, PdtB, Pmt, Done}
 use Rattle.tokens.specs.declared.Message.{Message}
-use Rattle.tokens.specs.Rules.{Entered, Notes, State, searching, declining, granting, won, carrying, Next, sends, over, innerStep}
+use Rattle.tokens.specs.Rules.{Plan, Entered, Notes, State, searching, declining, granting, won, carrying, Next, sends, over, innerStep}
 
 abbrev pub notesOf : State → Notes
 notesOf (searching notes waiting) = notes
@@ -33,13 +33,13 @@ abbrev pub logged : Message → State → Run → Run
 logged message state run = record { log = record { message = message; round = notesOf state .round } ∷ run .log; last = run .last }
 
 -- the run from a state on whose next inner step is known, until it is over or so many messages are sent
-unfoldable pub runOn : Site → ℕ → ℕ → State → Next → Run
-runOn site k zero state next = record { log = []; last = state }
-runOn site k (suc budget) state over = record { log = []; last = state }
-runOn site k (suc budget) state (sends message state′) = logged message state′ (runOn site k budget state′ (innerStep site k state′))
+unfoldable pub runOn : Plan → ℕ → State → Next → Run
+runOn plan zero state next = record { log = []; last = state }
+runOn plan (suc budget) state over = record { log = []; last = state }
+runOn plan (suc budget) state (sends message state′) = logged message state′ (runOn plan budget state′ (innerStep plan state′))
 
-abbrev pub runFrom : Site → ℕ → ℕ → State → Run
-runFrom site k budget state = runOn site k budget state (innerStep site k state)
+abbrev pub runFrom : Plan → ℕ → State → Run
+runFrom plan budget state = runOn plan budget state (innerStep plan state)
 
 -- ---- rule 8: the paths are those walked by DONE, in that order
 

@@ -10,7 +10,7 @@ use Rattle.site.specs.Map.{Site}
 use Rattle.tokens.specs.declared.Message.{Message}
 use Rattle.tokens.specs.Rules.{State, sends, over, innerStep}
 use Rattle.tokens.specs.Run.{Entry, notesOf, logged, runOn, runFrom}
-use Rattle.outcome.specs.Leaves.{kindNumber, logBytes}
+use Rattle.log.specs.Bytes.{kindNumber, logBytes}
 use Rattle.machine.specs.declared.Task.{Task}
 use Rattle.machine.specs.View.{Shows}
 use Rattle.machine.specs.Sane.{Sane}

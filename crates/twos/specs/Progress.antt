@@ -6,7 +6,7 @@ use lib.ListN.{length, drop}
 use Rattle.site.specs.Map.{Site}
 use Rattle.tokens.specs.Rules.{State}
 use Rattle.tokens.specs.Run.{Entry, Run, runFrom}
-use Rattle.outcome.specs.Leaves.{logBytes}
+use Rattle.log.specs.Bytes.{logBytes}
 use Rattle.machine.specs.declared.Task.{Task}
 use Rattle.machine.specs.View.{Shows}
 use Rattle.machine.specs.Sane.{Sane}

@@ -7,7 +7,7 @@ ghost use Prim.Native.Nat.{ℕ, _+_, _-_, _*_, _≤_, _<_};
 ghost use lib.ListN.{length, getD};
 ghost use Rattle.tokens.specs.Rules.{message};
 ghost use Rattle.tokens.specs.declared.Kind.the-variants.{Pdt, PdtB};
-ghost use Rattle.outcome.specs.Leaves.{kindNumber};
+ghost use Rattle.log.specs.Bytes.{kindNumber};
 ghost use Rattle.machine.specs.View.{Mirrors, isWon, enteredOf, stateOf};
 ghost use Rattle.machine.specs.Step.{Ready};
 ghost use Rattle.machine.specs.Parts.{Stands};
@@ -57,7 +57,7 @@ pub fn put(log: &mut [u8], at: usize, message: Message, round: usize)
     ensures { λ r. ⌜ now (log .exit) ≡ written (now (log .entry)) (4 * at) message round ⌝ }
 {
     let kind = message.kind;
-    let place = site::MESSAGE_BYTES * at;
+    let place = log::MESSAGE_BYTES * at;
     log[place] = kind_number(kind);
     log[place + 1] = round as u8;
     log[place + 2] = message.from as u8;
@@ -69,7 +69,7 @@ fn put_both(log: &mut [u8], at: usize, both: u64)
     requires { ⌜ 4 * at + 8 ≤ length (now log) ⌝ }
     ensures { λ r. ⌜ now (log .exit) ≡ eight (now (log .entry)) (4 * at) both ⌝ }
 {
-    let place = site::MESSAGE_BYTES * at;
+    let place = log::MESSAGE_BYTES * at;
     log[place] = (both % 256) as u8;
     log[place + 1] = (both / 256 % 256) as u8;
     log[place + 2] = (both / 65536 % 256) as u8;

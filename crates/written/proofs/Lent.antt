@@ -15,13 +15,13 @@ use Rattle.basics.proofs.Bools.{clash, both-ways, or-left, or-right, or-cases}
 use Rattle.basics.proofs.Counting.{some-counts}
 use Rattle.site.specs.Limits.{mostRadios}
 use Rattle.site.specs.Map.{Site, degree, links, link, A}
-use Rattle.site.specs.Refusals.{Call, callOf, verdict, number}
-use Rattle.site.specs.Conditions.{Fault, no-bit, diagonal, mirror}
-use Rattle.site.specs.declared.Verdict.{Verdict}
-use Rattle.site.specs.declared.Verdict.the-variants.{Accepted, Radios, TableLength, Cell, Links, Ends, Wanted, Log, Lists}
+use Rattle.refusals.specs.Refusals.{Call, callOf, verdict, number}
+use Rattle.refusals.specs.Conditions.{Fault, no-bit, diagonal, mirror}
+use Rattle.refusals.specs.declared.Verdict.{Verdict}
+use Rattle.refusals.specs.declared.Verdict.the-variants.{Accepted, Radios, TableLength, Cell, Links, Ends, Wanted, Log, Lists}
 use Rattle.site.proofs.Formula.{Even, steps-and-degrees}
-use Rattle.site.proofs.Exactly.{refused-exactly}
-use Rattle.site.proofs.Valid.{even-links}
+use Rattle.refusals.proofs.Exactly.{refused-exactly}
+use Rattle.refusals.proofs.Accepted.{even-links}
 use Rattle.outcome.specs.Leaves.{outcome}
 use Rattle.captures.specs.Capture.{came, badLink, badLine, tableOf}
 use Rattle.sheet_text.specs.Sheet.{logLent, pathsLent, cutLent}

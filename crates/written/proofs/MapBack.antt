@@ -14,8 +14,8 @@ use borrow.Author.Tests.{eq-eqb, eqb-true, lt-ltb}
 use Rattle.basics.specs.Lists.{All}
 use Rattle.basics.proofs.Bools.{clash, not-true→false, or-left, or-right, or-cases, and-left, and-right, and-both}
 use Rattle.site.specs.Limits.{mostRadios}
-use Rattle.site.specs.Conditions.{Fault, no-bit, diagonal, mirror}
-use Rattle.site.proofs.Exactly.{sound-table}
+use Rattle.refusals.specs.Conditions.{Fault, no-bit, diagonal, mirror}
+use Rattle.refusals.proofs.Exactly.{sound-table}
 use Rattle.captures.specs.Capture.{came, badLink, badLine, tableOf}
 use Rattle.written.specs.Writing.{isLinkAt, linksFrom, linksIn}
 use Rattle.written.specs.Reading.{SoundMap, Fills}

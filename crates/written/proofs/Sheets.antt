@@ -7,7 +7,7 @@ use lib.ListN.{length}
 use borrow.Author.Tests.{le-ltb}
 use Rattle.basics.proofs.Lists.{all-follow}
 use Rattle.site.specs.Limits.{mostRadios}
-use Rattle.site.specs.Refusals.{callOf}
+use Rattle.refusals.specs.Refusals.{callOf}
 use Rattle.captures.specs.Text.{mostNumber}
 use Rattle.captures.specs.Capture.{headOf, linksOf, badLine}
 use Rattle.captures.specs.declared.Head.{Head}

@@ -4,8 +4,8 @@ use mathlib.Core.List.{List, [], tail, List·Memᴰ}
 use Prim.Native.Nat.{ℕ, _*_, _≤_}
 use lib.ListN.{length, getD}
 use Rattle.site.specs.Limits.{mostRadios}
-use Rattle.site.specs.Refusals.{finding}
-use Rattle.site.specs.declared.Finding.the-variants.{Sound}
+use Rattle.refusals.specs.Refusals.{finding}
+use Rattle.refusals.specs.declared.Finding.the-variants.{Sound}
 use Rattle.captures.specs.Words.{lineFeed}
 use Rattle.captures.specs.Text.{pieces, mostNumber}
 use Rattle.captures.specs.Capture.{headOf, wrongLine, linksOf, badLine, tableOf}

@@ -2,7 +2,7 @@
 use mathlib.Core.Path.{_≡_, refl, sym, ap, _∙_}
 use Prim.Native.Nat.{_+_, _*_, _-_, _≤_}
 use native.Mathlib.Omega.{arith}
-use Rattle.site.specs.declared.Finding.the-variants.{Sound, Bad}
+use Rattle.refusals.specs.declared.Finding.the-variants.{Sound, Bad}
 use Rattle.checks.proofs.Scan.{Scanned, scanned-more, tested, found-bad, found-none}
 use Rattle.checks.proofs.first_bad.Statement.{statement}
 use Rattle.checks.proofs.first_bad.Tie as tie

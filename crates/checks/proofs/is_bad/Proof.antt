@@ -1,7 +1,7 @@
 -- `checks::is_bad` meets its contract. Assumes nothing.
 use mathlib.Core.Logic.{⊎-elim}
 use borrow.Author.Tests.{lt-ltb, le-ltb, eq-eqb, ne-eqb}
-use Rattle.site.specs.Refusals.{bad}
+use Rattle.refusals.specs.Refusals.{bad}
 use Rattle.checks.proofs.is_bad.Statement.{statement}
 use Rattle.checks.proofs.is_bad.Tie as tie
 

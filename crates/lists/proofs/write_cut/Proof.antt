@@ -6,7 +6,7 @@ use native.Mathlib.Omega.{arith}
 use lib.ListN.{length, getD, drop, length-set}
 use Rattle.site.specs.Map.{Site}
 use Rattle.tokens.specs.Run.{itemOf}
-use Rattle.outcome.specs.Leaves.{pathBytes}
+use Rattle.path_lists.specs.Bytes.{pathBytes}
 use Rattle.machine.specs.View.{enteredOf}
 use Rattle.lists.specs.Cut.{Ends, Radios, Holds}
 use Rattle.lists.proofs.Cutting.{all-at, Itemed, one-more-item, all-items}

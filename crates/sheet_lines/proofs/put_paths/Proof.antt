@@ -3,7 +3,7 @@ use mathlib.Core.List.{List, [], _++_}
 use Prim.Native.Nat.{ℕ, _+_, _-_, _≤_}
 use native.Mathlib.Omega.{arith}
 use lib.ListN.{getD, drop}
-use Rattle.outcome.specs.Leaves.{pathBytes}
+use Rattle.path_lists.specs.Bytes.{pathBytes}
 use Rattle.sheet_lines.specs.Written.{PathList}
 use Rattle.sheet_lines.proofs.Writing.{partly-kept}
 use Rattle.sheet_lines.proofs.Paths.{PathAt, Passed, passed-none, next-path, passed-room, passed-more, passed-all}

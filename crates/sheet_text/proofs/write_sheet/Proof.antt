@@ -6,7 +6,7 @@ use native.Mathlib.Omega.{arith}
 use lib.ListN.{length, take, replicate}
 use borrow.Author.Tests.{lt-ltb, le-ltb}
 use borrow.Author.Needs.{needs}
-use Rattle.outcome.specs.Leaves.{zerosAfter}
+use Rattle.buffers.specs.Zeros.{zerosAfter}
 use Rattle.sheet_lines.specs.Written.{Written}
 use Rattle.sheet_lines.proofs.Writing.{kept, used}
 use Rattle.sheet_text.specs.Sheet.{sheetRoom}

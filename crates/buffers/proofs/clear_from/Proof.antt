@@ -1,11 +1,11 @@
--- `lists::clear_from` meets its contract. The loop's invariant: the old bytes, zeros up to here, and the old bytes after them. Assumes nothing.
+-- `buffers::clear_from` meets its contract. The loop's invariant: the old bytes, zeros up to here, and the old bytes after them. Assumes nothing.
 use mathlib.Core.Path.{_≡_, refl, _∙_, subst}
 use Prim.Native.Nat.{ℕ, _-_, _≤_}
 use native.Mathlib.Omega.{arith}
 use lib.ListN.{length, length-set}
-use Rattle.lists.proofs.Zeros.{Zeroed, none-zeroed, more-zeroed, all-zeroed}
-use Rattle.lists.proofs.clear_from.Statement.{statement}
-use Rattle.lists.proofs.clear_from.Tie as tie
+use Rattle.buffers.proofs.Zeros.{Zeroed, none-zeroed, more-zeroed, all-zeroed}
+use Rattle.buffers.proofs.clear_from.Statement.{statement}
+use Rattle.buffers.proofs.clear_from.Tie as tie
 
 abbrev Inv-loop : tie.InvT-loop
 Inv-loop bytes₀ from i₀ i-end bytes i = (from ≤ i) × (i ≤ length bytes₀) × (length bytes ≡ length bytes₀) × Zeroed bytes₀ from i bytes

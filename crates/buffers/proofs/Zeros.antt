@@ -6,7 +6,7 @@ use native.Mathlib.Nat.{sub-self}
 use native.Mathlib.Omega.{arith}
 use lib.ListN.{length, take, drop, set, replicate, length-append, length-take, length-replicate, take-append-drop, replicate-append-replicate}
 use lib.Seq.{drop-length}
-use Rattle.paths.proofs.Stores.{store-next}
+use Rattle.buffers.proofs.Stores.{store-next}
 
 -- the old bytes, zeros from one place up to another, and the old bytes after them
 abbrev pub Zeroed : List ℕ → ℕ → ℕ → List ℕ → Type 0

@@ -5,12 +5,13 @@ use Prim.Native.Nat.{ℕ, _+_, _-_, _*_, _/_, _%_}
 use lib.Dec.{eqb, ltb}
 use lib.ListN.{length, getD}
 use Rattle.basics.specs.Counting.{firstFrom}
 use Rattle.site.specs.Limits.{mostRadios, mostLinks, mostPaths}
 use Rattle.site.specs.Map.{Site, links, A}
-use Rattle.site.specs.declared.Finding.{Finding}
-use Rattle.site.specs.declared.Finding.the-variants.{Sound, Bad}
-use Rattle.site.specs.declared.Verdict.{Verdict}
-use Rattle.site.specs.declared.Verdict.the-variants.{Accepted, Radios, TableLength, Cell, Links, Ends, Wanted, Log, Lists}
+use Rattle.log.specs.Bytes.{messageBytes}
+use Rattle.refusals.specs.declared.Finding.{Finding}
+use Rattle.refusals.specs.declared.Finding.the-variants.{Sound, Bad}
+use Rattle.refusals.specs.declared.Verdict.{Verdict}
+use Rattle.refusals.specs.declared.Verdict.the-variants.{Accepted, Radios, TableLength, Cell, Links, Ends, Wanted, Log, Lists}
 
 -- what a caller hands over: the map and its ends, the number of paths wanted, and the lengths of the three lent buffers
 pub record Call : Type 0 where
@@ -52,7 +53,7 @@ abbrev pub mostMessages : Site → ℕ → ℕ
 mostMessages site k = (2 * k + 1) * A site
 
 abbrev pub logNeeds : Site → ℕ → ℕ
-logNeeds site k = 4 * mostMessages site k
+logNeeds site k = messageBytes * mostMessages site k
 
 abbrev pub pathsNeed : Site → ℕ → ℕ
 pathsNeed site k = site .n - 2 + 3 * k

@@ -4,8 +4,10 @@ use mathlib.Core.List.{List, [], _∷_}
 use mathlib.Core.Logic.{_⊎_}
 use Prim.Native.Nat.{ℕ, zero, suc, _+_, _-_, _*_, _/_, _%_, _<_, _≤_}
 use lib.ListN.{length, getD}
+use Rattle.site.specs.Limits.{mostRadios, mostLinks, mostPaths}
 use Rattle.site.specs.Map.{links, A}
-use Rattle.site.specs.Refusals.{Call}
+use Rattle.log.specs.Bytes.{messageBytes}
+use Rattle.refusals.specs.Refusals.{Call}
 
 -- the cell at this place is not 0 or 1, or is on the diagonal and not 0, or differs from its mirror cell
 pub data Fault (table : List ℕ) (n place : ℕ) : Type 0 where
@@ -23,13 +25,13 @@ pub record FirstFault (table : List ℕ) (n place : ℕ) : Type 0 where
 abbrev pub conditions : Call → List (Type 0)
 conditions call =
     let site = call .site in
-    ((site .n < 2) ⊎ (64 < site .n))
+    ((site .n < 2) ⊎ (mostRadios < site .n))
     ∷ (length (site .table) ≡ site .n * site .n → ⊥)
     ∷ ((place : ℕ) × (place < site .n * site .n) × Fault (site .table) (site .n) place)
-    ∷ (256 < links (site .table) (site .n))
+    ∷ (mostLinks < links (site .table) (site .n))
     ∷ ((site .n ≤ site .S) ⊎ (site .n ≤ site .T) ⊎ (site .S ≡ site .T))
-    ∷ ((call .k ≡ 0) ⊎ (8 < call .k))
-    ∷ (call .logLength < 4 * ((2 * call .k + 1) * A site))
+    ∷ ((call .k ≡ 0) ⊎ (mostPaths < call .k))
+    ∷ (call .logLength < messageBytes * ((2 * call .k + 1) * A site))
     ∷ ((call .pathsLength < site .n - 2 + 3 * call .k) ⊎ (call .cutLength < call .k))
     ∷ []
 

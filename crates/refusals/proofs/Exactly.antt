@@ -12,12 +12,12 @@ use borrow.Author.Tests.{ltb-true, ltb-false}
 use Rattle.basics.specs.Counting.{First as Counted}
 use Rattle.basics.proofs.Bools.{Tells, tells-below, tells-not-below, tells-equal, tells-or, tells-and, tells-not, tells-same}
 use Rattle.basics.proofs.Counting.{first-from}
 use Rattle.site.specs.Map.{links}
-use Rattle.site.specs.Refusals.{Call, bad, badAt, badCell, firstBad, finding, logNeeds, pathsNeed, refuse, passed, verdict, number, placeOf}
-use Rattle.site.specs.Conditions.{Fault, no-bit, diagonal, mirror, FirstFault, conditions, Holds, First}
-use Rattle.site.specs.declared.Finding.the-variants.{Sound, Bad}
-use Rattle.site.specs.declared.Verdict.{Verdict}
-use Rattle.site.specs.declared.Verdict.the-variants.{Accepted, Radios, TableLength, Cell, Links, Ends, Wanted, Log, Lists}
+use Rattle.refusals.specs.Refusals.{Call, bad, badAt, badCell, firstBad, finding, logNeeds, pathsNeed, refuse, passed, verdict, number, placeOf}
+use Rattle.refusals.specs.Conditions.{Fault, no-bit, diagonal, mirror, FirstFault, conditions, Holds, First}
+use Rattle.refusals.specs.declared.Finding.the-variants.{Sound, Bad}
+use Rattle.refusals.specs.declared.Verdict.{Verdict}
+use Rattle.refusals.specs.declared.Verdict.the-variants.{Accepted, Radios, TableLength, Cell, Links, Ends, Wanted, Log, Lists}
 
 -- ---- a list of tests, each with the verdict that it gives
 

@@ -1,0 +1,21 @@
+-- The log's bytes of document 01, "What a run leaves": no other room knows how long a message is.
+use mathlib.Core.List.{List, [], _∷_}
+use Prim.Native.Nat.{ℕ}
+use Rattle.tokens.specs.declared.Kind.{Kind}
+use Rattle.tokens.specs.declared.Kind.the-variants.{Pdt, PdtB, Pmt, Done}
+use Rattle.tokens.specs.Run.{Entry}
+
+-- document 01's number of each kind of message
+abbrev pub kindNumber : Kind → ℕ
+kindNumber Pdt = 1
+kindNumber PdtB = 2
+kindNumber Pmt = 3
+kindNumber Done = 4
+
+-- four bytes a message: kind, round, sending half, receiving half
+abbrev pub messageBytes : ℕ
+messageBytes = 4
+
+unfoldable pub logBytes : List Entry → List ℕ
+logBytes [] = []
+logBytes (e ∷ log) = kindNumber (e .message .kind) ∷ e .round ∷ e .message .from ∷ e .message .to ∷ logBytes log
