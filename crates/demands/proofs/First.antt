@@ -7,7 +7,7 @@ use lib.ListN.{replicate}
 use native.Mathlib.Nat.{sub-zero}
 use borrow.Author.Tests.{ne-eqb}
 use Rattle.refusals.specs.Refusals.{Call, verdict, number}
-use Rattle.site.proofs.Exactly as exactly
+use Rattle.refusals.proofs.Exactly as exactly
 use Rattle.outcome.specs.Leaves.{outcome, logLeft, pathsLeft, cutLeft}
 use Rattle.buffers.specs.Zeros.{zerosAfter}
 use Rattle.demands.specs.Demand1.{NothingLeft, Demand1}

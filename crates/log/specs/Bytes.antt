@@ -1,6 +1,8 @@
 -- The log's bytes of document 01, "What a run leaves": no other room knows how long a message is.
-use mathlib.Core.List.{List, [], _∷_}
-use Prim.Native.Nat.{ℕ}
+use mathlib.Core.Path.{_≡_}
+use mathlib.Core.List.{List, [], _∷_, _++_}
+use Prim.Native.Nat.{ℕ, _*_}
+use lib.ListN.{length, drop}
 use Rattle.tokens.specs.declared.Kind.{Kind}
 use Rattle.tokens.specs.declared.Kind.the-variants.{Pdt, PdtB, Pmt, Done}
 use Rattle.tokens.specs.Run.{Entry}
@@ -19,3 +21,7 @@ messageBytes = 4
 unfoldable pub logBytes : List Entry → List ℕ
 logBytes [] = []
 logBytes (e ∷ log) = kindNumber (e .message .kind) ∷ e .round ∷ e .message .from ∷ e .message .to ∷ logBytes log
+
+-- the log holds these messages at its front, and after them what it held before
+abbrev pub Filled : List Entry → List ℕ → List ℕ → Type 0
+Filled entries before log = log ≡ logBytes entries ++ drop (messageBytes * length entries) before
