@@ -21,14 +21,14 @@ use Rattle.menger.proofs.Walks.{walk-below, walkable-steps}
 use Rattle.routes.proofs.Trails.{networkOf}
 use Rattle.routes.proofs.Split.{split-of}
 use Rattle.rounds.proofs.Shows.{Plays}
-use Rattle.rounds.proofs.Order.{Ordered}
-use Rattle.rounds.proofs.Once.{Left, without, remaining, one-goes, none-goes, one-fewer}
+use Rattle.rounds.proofs.Order.{OrderOf}
+use Rattle.rounds.proofs.Once.{Unsent, without, remaining, one-goes, none-goes, one-fewer}
 use Rattle.rounds.proofs.Replies.{awaited, owes, answers}
 use Rattle.rounds.proofs.Search.{halvesOf, with, Search, NoneFrom, begins, was-left, asked, met-before, new-to-all, enters, gave-back, closes}
 use Rattle.rounds.proofs.Rest.{Rest, before, played}
 
 -- how many messages a search may still send: a reply to each half that waits below, and each PDT that is left with its reply
-abbrev potential : Site → Left → Waiting → ℕ
+abbrev potential : Site → Unsent → Waiting → ℕ
 potential site left rest = length (halvesOf rest) + 2 * remaining (2 * site .n) left
 
 -- notes in which these halves are entered
@@ -52,7 +52,7 @@ module _ (plan : Plan) (notes : Notes) where
 
   -- each half that waits turns its step and is paid, down to S
   unwinds :
-      (left : Left) {most : ℕ} (y h i : ℕ) (rest : Waiting) (current : Notes) → current .round ≡ notes .round → current .found ≡ notes .found
+      (left : Unsent) {most : ℕ} (y h i : ℕ) (rest : Waiting) (current : Notes) → current .round ≡ notes .round → current .found ≡ notes .found
       → Walked (networkOf (plan .site)) (notes .marks) (allTurned (networkOf (plan .site)) y (h ∷ halvesOf rest) (current .marks)) → length (h ∷ halvesOf rest) ≤ most
       → Rest plan notes left (awaited y (h ∷ halvesOf rest)) most (granting y current (waits h i rest))
   unfolding innerStep grant allTurned
@@ -73,12 +73,12 @@ module _ (plan : Plan) (notes : Notes) where
   -- ---- the search
 
   -- the search from these halves on ends as a round must
-  abbrev Ended : Entered → Left → ℕ → ℕ → Waiting → Type 0
+  abbrev Ended : Entered → Unsent → ℕ → ℕ → Waiting → Type 0
   Ended entered left h i rest = Rest plan notes left (awaited h (halvesOf rest)) (potential (plan .site) left rest) (searching (noting notes entered) (waits h i rest))
 
   -- every search does that may still send fewer messages than this
   abbrev EndsBelow : ℕ → Type 0
-  EndsBelow fuel = (entered : Entered) (left : Left) (h i : ℕ) (rest : Waiting) → Search plan (notes .marks) entered entered left (waits h i rest) → potential (plan .site) left rest < fuel → Ended entered left h i rest
+  EndsBelow fuel = (entered : Entered) (left : Unsent) (h i : ℕ) (rest : Waiting) → Search plan (notes .marks) entered entered left (waits h i rest) → potential (plan .site) left rest < fuel → Ended entered left h i rest
 
   -- a place of half h is open
   abbrev openAt : ℕ → ℕ → Bool
@@ -91,10 +91,10 @@ module _ (plan : Plan) (notes : Notes) where
   none-from : (h i : ℕ) → i ≤ plan .site .n + 1 → plan .site .n + 1 ≤ nextPlace plan (notes .marks) h i → NoneFrom plan (notes .marks) h i
   none-from h i p q place from within = next-place h i p .before place from (omega arith)
 
-  module _ (ordered : Ordered plan) (split : Split (networkOf (plan .site))) (fuel : ℕ) (ends : EndsBelow fuel) where
+  module _ (ordered : OrderOf plan) (split : Split (networkOf (plan .site))) (fuel : ℕ) (ends : EndsBelow fuel) where
     -- half y gets a PDT from half h. The two tests: it is T's in half; it was entered before
     gets-pdt :
-        (entered : Entered) (left : Left) (y h i : ℕ) (rest : Waiting) (goal earlier : Bool) → eqb y (inHalf (plan .site .T)) ≡ goal → entered y ≡ earlier
+        (entered : Entered) (left : Unsent) (y h i : ℕ) (rest : Waiting) (goal earlier : Bool) → eqb y (inHalf (plan .site .T)) ≡ goal → entered y ≡ earlier
         → Search plan (notes .marks) entered (with y entered) left (waits h i rest) → walkable (networkOf (plan .site)) (notes .marks) h y ≡ true → potential (plan .site) left (waits h i rest) < fuel
         → Rest plan notes left (awaited y (h ∷ halvesOf rest)) (potential (plan .site) left (waits h i rest)) (gets goal earlier y (noting notes entered) (waits h i rest))
     unfolding gets innerStep decline
@@ -112,7 +112,7 @@ module _ (plan : Plan) (notes : Notes) where
 
     -- half h has found its next place
     sends-pdt :
-        (entered : Entered) (left : Left) (h i : ℕ) (rest : Waiting) → Search plan (notes .marks) entered entered left (waits h i rest) → potential (plan .site) left rest < suc fuel
+        (entered : Entered) (left : Unsent) (h i : ℕ) (rest : Waiting) → Search plan (notes .marks) entered entered left (waits h i rest) → potential (plan .site) left rest < suc fuel
         → nextPlace plan (notes .marks) h i < plan .site .n + 1 → Ended entered left h i rest
     unfolding innerStep search tries
     sends-pdt entered left h i rest s p q =
@@ -128,7 +128,7 @@ module _ (plan : Plan) (notes : Notes) where
 
     -- half h has no place left: it replies PDT_B, or is S
     has-none :
-        (entered : Entered) (left : Left) (h i : ℕ) (rest : Waiting) → Search plan (notes .marks) entered entered left (waits h i rest) → potential (plan .site) left rest < suc fuel
+        (entered : Entered) (left : Unsent) (h i : ℕ) (rest : Waiting) → Search plan (notes .marks) entered entered left (waits h i rest) → potential (plan .site) left rest < suc fuel
         → plan .site .n + 1 ≤ nextPlace plan (notes .marks) h i → Ended entered left h i rest
     unfolding innerStep search tries
     has-none entered left h i nobody s p q = record {
@@ -153,7 +153,7 @@ module _ (plan : Plan) (notes : Notes) where
         (ends entered left g j rest (gave-back plan (notes .marks) s (none-from h i (s .rows .0 .within) q)) (omega arith))
 
   -- the potential falls with each message, so that every search ends
-  every-search-ends : Ordered plan → Split (networkOf (plan .site)) → (fuel : ℕ) → EndsBelow fuel
+  every-search-ends : OrderOf plan → Split (networkOf (plan .site)) → (fuel : ℕ) → EndsBelow fuel
   every-search-ends ordered split zero entered left h i rest s p = absurd (omega arith)
   every-search-ends ordered split (suc fuel) entered left h i rest s p = go (decLt (nextPlace plan (notes .marks) h i) (plan .site .n + 1)) (every-search-ends ordered split fuel)
     where
@@ -162,10 +162,10 @@ module _ (plan : Plan) (notes : Notes) where
       go (no q) ih = has-none ordered split fuel ih entered left h i rest s p (omega arith)
 
 -- a round that begins with S's out half alone entered shows what a round must show, whatever the marks
-pub round-played : (plan : Plan) → Valid (plan .site) → Ordered plan → Plays plan
+pub round-played : (plan : Plan) → Valid (plan .site) → OrderOf plan → Plays plan
 unfolding A
 round-played plan valid ordered state notes same only =
-    let left : Left = walkable (networkOf (plan .site)) (notes .marks) in
+    let left : Unsent = walkable (networkOf (plan .site)) (notes .marks) in
     let begun : Search plan (notes .marks) (notes .entered) (notes .entered) left (justS (plan .site)) = rw only (begins plan (notes .marks) ordered) in
     played plan notes state same (omega (arith, walkable-steps (networkOf (plan .site)) (notes .marks)))
     (every-search-ends plan notes ordered (split-of (plan .site) valid) (suc (potential (plan .site) left nobody)) (notes .entered) left _ 0 nobody begun (omega arith))

@@ -22,13 +22,13 @@ pub record Order (n : ℕ) (order : ℕ → ℕ) : Type 0 where
   pub once : (i j : ℕ) → i < n + 1 → j < n + 1 → order i ≡ order j → i ≡ j
 
 -- a plan's order is one
-abbrev pub Ordered : Plan → Type 0
-Ordered plan = Order (plan .site .n) (plan .order)
+abbrev pub OrderOf : Plan → Type 0
+OrderOf plan = Order (plan .site .n) (plan .order)
 
 -- ---- numbers, whatever the order
 
 -- half h may try this number, which leads to half y
-pub record Numbered (site : Site) (marks : Marks) (h y : ℕ) : Type 0 where
+pub record OpenNumber (site : Site) (marks : Marks) (h y : ℕ) : Type 0 where
   pub number : ℕ
   pub within : number < site .n + 1
   pub opens : canTry site marks h number ≡ true
@@ -58,7 +58,7 @@ module _ (site : Site) where
   unfolding canTry
   not-its-own marks h number e = eqb-false _ _ (not-true _ (and-left _ _ e))
 
-  numbered : (marks : Marks) (h y number : ℕ) → walkable (networkOf site) marks h y ≡ true → number < site .n + 1 → (number ≡ radioOf h → ⊥) → candidate site h number ≡ y → Numbered site marks h y
+  numbered : (marks : Marks) (h y number : ℕ) → walkable (networkOf site) marks h y ≡ true → number < site .n + 1 → (number ≡ radioOf h → ⊥) → candidate site h number ≡ y → OpenNumber site marks h y
   unfolding canTry
   numbered marks h y number w p ne e = record { number = number; within = p; opens = rw (ne-eqb number (radioOf h) ne, e, may-walk) w; leads = e }
 
@@ -68,7 +68,7 @@ module _ (site : Site) where
   out-half : (v h : ℕ) → h ≡ outHalf v → isOut h ≡ true
   out-half v h e = rw e (out-is-out v)
 
-  step-numbered : (marks : Marks) (h y : ℕ) → walkable (networkOf site) marks h y ≡ true → Step site h y ⊎ Step site y h → Numbered site marks h y
+  step-numbered : (marks : Marks) (h y : ℕ) → walkable (networkOf site) marks h y ≡ true → Step site h y ⊎ Step site y h → OpenNumber site marks h y
   step-numbered marks h y w (inl (inside v a b p ns nt)) = numbered marks h y (site .n) w (omega arith) (λ c. omega arith) (own-half h (site .n) false (in-half v h a) (omega arith) ∙ omega arith)
   step-numbered marks h y w (inr (inside v a b p ns nt)) = numbered marks h y (site .n) w (omega arith) (λ c. omega arith) (own-half h (site .n) true (out-half v h b) (omega arith) ∙ omega arith)
   step-numbered marks h y w (inl (over u v a b e nt ns)) =
@@ -79,10 +79,10 @@ module _ (site : Site) where
       numbered marks h y u w (omega arith) (λ c. link .differ (omega arith)) (other-radio h u false (in-half v h b) (link .from-below) ∙ sym a)
 
   -- every step that can be walked has its open number
-  walk-numbered : (marks : Marks) (h y : ℕ) → walkable (networkOf site) marks h y ≡ true → Numbered site marks h y
+  walk-numbered : (marks : Marks) (h y : ℕ) → walkable (networkOf site) marks h y ≡ true → OpenNumber site marks h y
   walk-numbered marks h y w = go (walk-cases (networkOf site) marks h y w)
     where
-      go : ((step site h y ≡ true) × (marks h y ≡ false)) ⊎ ((step site y h ≡ true) × (marks y h ≡ true)) → Numbered site marks h y
+      go : ((step site h y ≡ true) × (marks h y ≡ false)) ⊎ ((step site y h ≡ true) × (marks y h ≡ true)) → OpenNumber site marks h y
       go (inl e) = step-numbered marks h y w (inl (step-of site h y (e .0)))
       go (inr e) = step-numbered marks h y w (inr (step-of site y h (e .0)))
 
@@ -116,11 +116,11 @@ pub record Ahead (plan : Plan) (marks : Marks) (h i y : ℕ) : Type 0 where
   pub opens : canTry (plan .site) marks h (plan .order place) ≡ true
   pub leads : candidate (plan .site) h (plan .order place) ≡ y
 
-module _ {plan : Plan} (ordered : Ordered plan) (marks : Marks) (h : ℕ) where
+module _ {plan : Plan} (ordered : OrderOf plan) (marks : Marks) (h : ℕ) where
   -- every step that can be walked has its open place
   pub placed : (y : ℕ) → walkable (networkOf (plan .site)) marks h y ≡ true → Ahead plan marks h 0 y
   placed y w =
-      let a : Numbered (plan .site) marks h y = walk-numbered (plan .site) marks h y w in
+      let a : OpenNumber (plan .site) marks h y = walk-numbered (plan .site) marks h y w in
       let at = ordered .onto (a .number) (a .within) in
       record { place = at .0; from = omega arith; within = at .1; opens = rw (at .2) (a .opens); leads = rw (at .2) (a .leads) }
 

@@ -13,11 +13,11 @@ use Rattle.tokens.specs.Run.{notesOf}
 use Rattle.menger.proofs.Network.{walkable}
 use Rattle.routes.proofs.Trails.{networkOf}
 use Rattle.rounds.proofs.Shows.{Leads, inRound, tokens, tokenTo, Due, dueAfter, Answered, Won, Lost, Played}
-use Rattle.rounds.proofs.Once.{Left}
+use Rattle.rounds.proofs.Once.{Unsent}
 
 module _ (plan : Plan) (notes : Notes) where
   -- the rest of a round that began with these notes, from a state in which these PDTs are left and these tokens not answered; it has at most so many messages
-  pub record Rest (left : Left) (due : ℕ → ℕ → ℕ) (most : ℕ) (state : State) : Type 0 where
+  pub record Rest (left : Unsent) (due : ℕ → ℕ → ℕ) (most : ℕ) (state : State) : Type 0 where
     pub log : List Message
     pub end : State
     pub leads : Leads plan state (inRound (notes .round) log) end
@@ -29,7 +29,7 @@ module _ (plan : Plan) (notes : Notes) where
 
   -- one message more, before the rest
   pub before :
-      {left left′ : Left} {due due′ : ℕ → ℕ → ℕ} {most most′ : ℕ} {state next : State} (m : Message)
+      {left left′ : Unsent} {due due′ : ℕ → ℕ → ℕ} {most most′ : ℕ} {state next : State} (m : Message)
       → innerStep plan state ≡ sends m next → notes .round ≡ notesOf next .round
       → Due (m .kind) (m .from) (m .to) due → ((x y : ℕ) → dueAfter (m .kind) (m .from) (m .to) due x y ≡ due′ x y)
       → ((x y : ℕ) → tokenTo x y (m .kind) (m .from) (m .to) + oneIf (left′ x y) ≤ oneIf (left x y))

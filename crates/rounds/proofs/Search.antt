@@ -16,8 +16,8 @@ use Rattle.site.specs.Map.{inHalf, outHalf}
 use Rattle.tokens.specs.Rules.{Marks, Plan, Entered, Waiting, nobody, waits, onlyS, justS, candidate, canTry}
 use Rattle.menger.proofs.Network.{walkable, Way, Shut}
 use Rattle.routes.proofs.Trails.{networkOf}
-use Rattle.rounds.proofs.Order.{Ordered, Ahead, open-walks, placed, same-place}
-use Rattle.rounds.proofs.Once.{Left, without, without-less, without-this, without-other, without-cases}
+use Rattle.rounds.proofs.Order.{OrderOf, Ahead, open-walks, placed, same-place}
+use Rattle.rounds.proofs.Once.{Unsent, without, without-less, without-this, without-other, without-cases}
 
 -- the halves that wait, the last one first
 abbrev pub halvesOf : Waiting → List ℕ
@@ -39,12 +39,12 @@ module _ (plan : Plan) (marks : Marks) where
   -- ---- what holds
 
   -- half h may still send to those at its open places from place i on, and to no other
-  pub record Row (left : Left) (h i : ℕ) : Type 0 where
+  pub record Row (left : Unsent) (h i : ℕ) : Type 0 where
     pub within : i ≤ plan .site .n + 1
     pub ahead : (y : ℕ) → left h y ≡ true → Ahead plan marks h i y
     pub still : (y : ℕ) → Ahead plan marks h i y → left h y ≡ true
 
-  abbrev pub Rows : Left → Waiting → Type 0
+  abbrev pub Rows : Unsent → Waiting → Type 0
   Rows left nobody = Unit
   Rows left (waits h i rest) = Row left h i × Rows left rest
 
@@ -54,7 +54,7 @@ module _ (plan : Plan) (marks : Marks) where
   Chain (waits h i rest) = Way (networkOf (plan .site)) marks h (halvesOf rest)
 
   -- a search that has entered some halves and met these, and perhaps one more, to which a PDT is under way
-  pub record Search (entered met : Entered) (left : Left) (waiting : Waiting) : Type 0 where
+  pub record Search (entered met : Entered) (left : Unsent) (waiting : Waiting) : Type 0 where
     -- a PDT goes only over a step that can be walked
     pub walks : (x y : ℕ) → left x y ≡ true → walkable (networkOf (plan .site)) marks x y ≡ true
     -- one that is not left has gone from an entered half to one that was met
@@ -70,14 +70,14 @@ module _ (plan : Plan) (marks : Marks) where
   -- ---- rule 2: S's out half alone is entered, and searches
 
   -- a half that has tried nothing has all its places before it
-  whole-row : Ordered plan → (left : Left) (h : ℕ) → ((y : ℕ) → left h y ≡ true → walkable (networkOf (plan .site)) marks h y ≡ true) → ((y : ℕ) → walkable (networkOf (plan .site)) marks h y ≡ true → left h y ≡ true) → Row left h 0
+  whole-row : OrderOf plan → (left : Unsent) (h : ℕ) → ((y : ℕ) → left h y ≡ true → walkable (networkOf (plan .site)) marks h y ≡ true) → ((y : ℕ) → walkable (networkOf (plan .site)) marks h y ≡ true → left h y ≡ true) → Row left h 0
   whole-row ordered left h walks all = record {
     within = omega arith;
     ahead = λ y e. placed ordered marks h y (walks y e);
     still = λ y a. all y (rw (a .leads) at (open-walks (plan .site) marks h (plan .order (a .place)) (a .opens)));
   }
 
-  pub begins : Ordered plan → Search (onlyS (plan .site)) (onlyS (plan .site)) (walkable (networkOf (plan .site)) marks) (justS (plan .site))
+  pub begins : OrderOf plan → Search (onlyS (plan .site)) (onlyS (plan .site)) (walkable (networkOf (plan .site)) marks) (justS (plan .site))
   begins ordered = record {
     walks = λ x y e. e;
     tried = λ x y e. inl e;
@@ -91,7 +91,7 @@ module _ (plan : Plan) (marks : Marks) where
 
   -- ---- the half on top sends a PDT over its next place
 
-  module _ {entered : Entered} {left : Left} {h i : ℕ} {rest : Waiting} (search : Search entered entered left (waits h i rest)) {place : ℕ} (first : First (λ p. canTry (plan .site) marks h (plan .order p)) i (plan .site .n + 1) place) (within : place < plan .site .n + 1) where
+  module _ {entered : Entered} {left : Unsent} {h i : ℕ} {rest : Waiting} (search : Search entered entered left (waits h i rest)) {place : ℕ} (first : First (λ p. canTry (plan .site) marks h (plan .order p)) i (plan .site .n + 1) place) (within : place < plan .site .n + 1) where
     abbrev y : ℕ
     y = candidate (plan .site) h (plan .order place)
 
@@ -116,7 +116,7 @@ module _ (plan : Plan) (marks : Marks) where
           still = λ z a. without-other h y left g z (λ u v. apart .0 (sym u)) ∙ before .still z a;
         }
 
-    row-next : Ordered plan → Row (without h y left) h (suc place)
+    row-next : OrderOf plan → Row (without h y left) h (suc place)
     row-next ordered = record {
       within = omega arith;
       ahead = λ z l. let a = search .rows .0 .ahead z (without-less h y left h z l) in record { place = a .place; from = later z l a (decLt _ _) (ℕ-discrete _ _); within = a .within; opens = a .opens; leads = a .leads };
@@ -134,7 +134,7 @@ module _ (plan : Plan) (marks : Marks) where
         other z a e = omega (arith, a .from, same-place ordered marks h (record { place = a .place; from = a .from; within = a .within; opens = a .opens; leads = a .leads ∙ e }) here)
 
     -- now one PDT fewer is left, and the half it goes to is met
-    pub asked : Ordered plan → Search entered (with y entered) (without h y left) (waits h (suc place) rest)
+    pub asked : OrderOf plan → Search entered (with y entered) (without h y left) (waits h (suc place) rest)
     asked ordered = record {
       walks = λ a b e. search .walks a b (without-less h y left a b e);
       tried = λ a b w. again a b (search .tried a b w);
@@ -158,7 +158,7 @@ module _ (plan : Plan) (marks : Marks) where
 
   -- it was entered before
   pub met-before :
-      {entered : Entered} {left : Left} {waiting : Waiting} {y : ℕ} → Search entered (with y entered) left waiting → entered y ≡ true
+      {entered : Entered} {left : Unsent} {waiting : Waiting} {y : ℕ} → Search entered (with y entered) left waiting → entered y ≡ true
       → Search entered entered left waiting
   met-before {entered} {left} {y = y} search before = record {
     walks = search .walks;
@@ -180,12 +180,12 @@ module _ (plan : Plan) (marks : Marks) where
       again a b (inr e) = inr (e .0, was b (with-cases y entered b (e .1)))
 
   -- it was not, so that it does not wait
-  pub new-to-all : {entered met : Entered} {left : Left} {waiting : Waiting} {y : ℕ} → Search entered met left waiting → entered y ≡ false → Different (y ∷ halvesOf waiting)
+  pub new-to-all : {entered met : Entered} {left : Unsent} {waiting : Waiting} {y : ℕ} → Search entered met left waiting → entered y ≡ false → Different (y ∷ halvesOf waiting)
   new-to-all {y = y} search new = (not-true→false _ (λ e. clash (search .inside y e) new), search .different)
 
   -- it is entered now, and searches
   pub enters :
-      Ordered plan → {entered : Entered} {left : Left} {waiting : Waiting} {y : ℕ} → Search entered (with y entered) left waiting → entered y ≡ false → (y ≡ inHalf (plan .site .T) → ⊥) → Way (networkOf (plan .site)) marks y (halvesOf waiting)
+      OrderOf plan → {entered : Entered} {left : Unsent} {waiting : Waiting} {y : ℕ} → Search entered (with y entered) left waiting → entered y ≡ false → (y ≡ inHalf (plan .site .T) → ⊥) → Way (networkOf (plan .site)) marks y (halvesOf waiting)
       → Search (with y entered) (with y entered) left (waits y 0 waiting)
   enters ordered {entered} {left} {waiting} {y} search new not-goal way = record {
     walks = search .walks;
@@ -221,7 +221,7 @@ module _ (plan : Plan) (marks : Marks) where
   NoneFrom h i = (place : ℕ) → i ≤ place → place < plan .site .n + 1 → canTry (plan .site) marks h (plan .order place) ≡ false
 
   waits-below :
-      {entered : Entered} {left : Left} {h i : ℕ} {rest : Waiting} → Search entered entered left (waits h i rest) → NoneFrom h i
+      {entered : Entered} {left : Unsent} {h i : ℕ} {rest : Waiting} → Search entered entered left (waits h i rest) → NoneFrom h i
       → (x y : ℕ) → entered x ≡ true → left x y ≡ true → among x (halvesOf rest) ≡ true
   waits-below {left = left} {h} {rest = rest} search none x y e l = go (among-cases x h (halvesOf rest) (search .done x y e l))
     where
@@ -234,7 +234,7 @@ module _ (plan : Plan) (marks : Marks) where
 
   -- it replies PDT_B, and the half below it goes on
   pub gave-back :
-      {entered : Entered} {left : Left} {h i g j : ℕ} {rest : Waiting} → Search entered entered left (waits h i (waits g j rest)) → NoneFrom h i
+      {entered : Entered} {left : Unsent} {h i g j : ℕ} {rest : Waiting} → Search entered entered left (waits h i (waits g j rest)) → NoneFrom h i
       → Search entered entered left (waits g j rest)
   gave-back search none = record {
     walks = search .walks;
@@ -248,7 +248,7 @@ module _ (plan : Plan) (marks : Marks) where
   }
 
   -- it is S: the entered halves are closed
-  pub closes : {entered : Entered} {left : Left} {h i : ℕ} → Search entered entered left (waits h i nobody) → NoneFrom h i → Shut (networkOf (plan .site)) marks entered
+  pub closes : {entered : Entered} {left : Unsent} {h i : ℕ} → Search entered entered left (waits h i nobody) → NoneFrom h i → Shut (networkOf (plan .site)) marks entered
   closes {entered} {left} {h} search none = record {
     closed = λ x y e w. go x y e (search .tried x y w);
     source-in = rw (← search .chain) (search .inside h (among-here h []));
