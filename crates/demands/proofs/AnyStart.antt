@@ -29,10 +29,11 @@ use Rattle.demands.proofs.Told.{DonesLast}
 use Rattle.demands.proofs.Tokens.{Orderly}
 use Rattle.demands.proofs.Whole.{CanStart, Ran, run-is, ran}
 
--- the halves entered in the last round, and the cut that they make
+-- the cut that the halves entered in the last round make
 abbrev pub lastCut : Plan → Run → List ℕ
 lastCut plan run = cutOf (plan .site) (notesOf (run .last) .entered) (pathsOf (plan .site) (run .log))
 
+-- a run that is over, and what it comes to
 pub record Delivers (plan : Plan) (run : Run) : Type 0 where
   pub ends : innerStep plan (run .last) ≡ over
   -- ---- demand 2
@@ -50,6 +51,8 @@ pub record Delivers (plan : Plan) (run : Run) : Type 0 where
   -- ---- demand 3
   -- each round but a lost one adds a path to those kept
   pub rounds : (M : ℕ) → Largest (plan .site) M → plan .kept + notesOf (run .last) .round ≡ min (plan .k) (M + 1)
+  -- and no round is played for a path that is not lacking
+  pub few-rounds : plan .kept + notesOf (run .last) .round ≤ plan .k
   pub orderly : Orderly (plan .site) 0 (run .log)
   pub bound : length (run .log) ≤ (2 * notesOf (run .last) .round + 1) * A (plan .site)
   pub fits : length (run .log) ≤ (2 * (plan .k - plan .kept) + 1) * A (plan .site)
@@ -73,8 +76,8 @@ pub record Delivers (plan : Plan) (run : Run) : Type 0 where
 
 module _ {plan : Plan} (can : CanStart plan) (r : Ran plan) where
   -- no more rounds are played than paths are lacking
-  pub few-rounds : plan .kept + r .last .round ≤ plan .k
-  few-rounds = cases (r .outcome)
+  rounds-needed : plan .kept + r .last .round ≤ plan .k
+  rounds-needed = cases (r .outcome)
     where
       cases : FullOrLost plan (r .last) → plan .kept + r .last .round ≤ plan .k
       cases (inl w) = omega (arith, w .1)
@@ -108,7 +111,7 @@ module _ {plan : Plan} (can : CanStart plan) (r : Ran plan) where
   within-budget = omega (arith, r .bound, mul-le-mul-right (A (plan .site)) more)
     where
       more : 2 * r .last .round + 1 ≤ 2 * (plan .k - plan .kept) + 1
-      more = omega (arith, few-rounds)
+      more = omega (arith, rounds-needed)
 
   ran-delivers : Delivers plan (record { log = r .log; last = r .end })
   ran-delivers =
@@ -125,6 +128,7 @@ module _ {plan : Plan} (can : CanStart plan) (r : Ran plan) where
         items = rw (r .told, r .paths) (λ p. cut-number (can .valid) (r .flow) (last-shut p));
         most = rw (r .told) short-most;
         rounds = rw (r .told) (λ M l. counted M l (r .outcome));
+        few-rounds = rw (r .told) rounds-needed;
         orderly = r .orderly;
         bound = rw (r .told) (r .bound);
         fits = within-budget;

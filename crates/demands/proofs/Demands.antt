@@ -1,4 +1,4 @@
--- Demands 2 and 3 hold for every accepted call: its run starts with no mark and tries by rising number. Assumes nothing.
+-- Demands 2 and 3 hold for every accepted call, as the run with no mark at the start and rule 3's order: the index of what is proved. Assumes nothing.
 use mathlib.Core.Path.{_≡_, refl, sym, ap, _∙_}
 use mathlib.Core.Bool.{true, cond}
 use mathlib.Core.List.{List, [], _∷_}
