@@ -1,5 +1,5 @@
 -- What demands 2 and 3 say, of the run of any plan that can start: any order of trying, any marks to begin with. Assumes nothing.
-use mathlib.Core.Path.{_≡_, sym, ap, _∙_}
+use mathlib.Core.Path.{_≡_, sym, _∙_}
 use mathlib.Core.Bool.{true}
 use mathlib.Core.List.{List}
 use mathlib.Core.Logic.{_⊎_, _↔_, inl, inr}
@@ -27,7 +27,7 @@ use Rattle.rounds.proofs.Shows.{Leads}
 use Rattle.demands.proofs.Rounds.{FullOrLost}
 use Rattle.demands.proofs.Told.{DonesLast}
 use Rattle.demands.proofs.Tokens.{Orderly}
-use Rattle.demands.proofs.Whole.{CanStart, Ran, run-is, ran}
+use Rattle.demands.proofs.Whole.{CanStart, WholeRun, run-is, whole-run}
 
 -- the cut that the halves entered in the last round make
 abbrev pub lastCut : Plan → Run → List ℕ
@@ -74,7 +74,7 @@ pub record Delivers (plan : Plan) (run : Run) : Type 0 where
 
 -- ---- what the run came to delivers this
 
-module _ {plan : Plan} (can : CanStart plan) (r : Ran plan) where
+module _ {plan : Plan} (can : CanStart plan) (r : WholeRun plan) where
   -- no more rounds are played than paths are lacking
   rounds-needed : plan .kept + r .last .round ≤ plan .k
   rounds-needed = cases (r .outcome)
@@ -113,8 +113,8 @@ module _ {plan : Plan} (can : CanStart plan) (r : Ran plan) where
       more : 2 * r .last .round + 1 ≤ 2 * (plan .k - plan .kept) + 1
       more = omega (arith, rounds-needed)
 
-  ran-delivers : Delivers plan (record { log = r .log; last = r .end })
-  ran-delivers =
+  run-delivers : Delivers plan (record { log = r .log; last = r .end })
+  run-delivers =
       record {
         ends = r .ends;
         disjoint = rw (r .paths) disjoint-paths;
@@ -153,19 +153,19 @@ module _ {plan : Plan} (can : CanStart plan) (r : Ran plan) where
       counted M l (inl w) = omega (arith, w .0, w .1, l .most _ disjoint-paths, number-of-paths)
       counted M l (inr w) = omega (arith, w .0, w .1, largest-unique l (short-most (w .0)))
 
--- ---- the run of a plan
+-- ---- the run of a plan, with room for all messages that its rounds may need
 
-module _ {plan : Plan} (can : CanStart plan) (budget : ℕ) (enough : (2 * (plan .k - plan .kept) + 1) * A (plan .site) ≤ budget) where
-  the-run : runFrom plan budget (start plan) ≡ record { log = ran can .log; last = ran can .end }
-  the-run = run-is plan budget (start plan) (ran can .log) (ran can .end) (ran can .leads) (ran can .ends) (omega (arith, within-budget can (ran can)))
+module _ {plan : Plan} (can : CanStart plan) where
+  the-run : (budget : ℕ) → (2 * (plan .k - plan .kept) + 1) * A (plan .site) ≤ budget → runFrom plan budget (start plan) ≡ record { log = whole-run can .log; last = whole-run can .end }
+  the-run budget enough = run-is plan budget (start plan) _ _ (whole-run can .leads) (whole-run can .ends) (omega (arith, within-budget can (whole-run can)))
 
-  -- a run with room for all messages that its rounds may need delivers what demands 2 and 3 ask
-  pub delivers : Delivers plan (runFrom plan budget (start plan))
-  delivers = rw the-run (ran-delivers can (ran can))
+  -- it delivers what demands 2 and 3 ask
+  pub delivers : (budget : ℕ) → (2 * (plan .k - plan .kept) + 1) * A (plan .site) ≤ budget → Delivers plan (runFrom plan budget (start plan))
+  delivers budget enough = rw (the-run budget enough) (run-delivers can (whole-run can))
 
   -- any larger budget gives the same run: it ends by itself
-  pub larger-budget : (larger : ℕ) → budget ≤ larger → runFrom plan larger (start plan) ≡ runFrom plan budget (start plan)
-  larger-budget larger more = run-is plan larger (start plan) (ran can .log) (ran can .end) (ran can .leads) (ran can .ends) (omega (arith, within-budget can (ran can))) ∙ sym the-run
+  pub larger-budget : (budget : ℕ) → (2 * (plan .k - plan .kept) + 1) * A (plan .site) ≤ budget → (larger : ℕ) → budget ≤ larger → runFrom plan larger (start plan) ≡ runFrom plan budget (start plan)
+  larger-budget budget enough larger more = the-run larger (omega arith) ∙ sym (the-run budget enough)
 
 -- ---- the rounds, counted from the start
 

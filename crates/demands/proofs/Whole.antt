@@ -40,7 +40,7 @@ pub record CanStart (plan : Plan) : Type 0 where
   pub wanted : 0 < plan .k
 
 -- what its run comes to
-pub record Ran (plan : Plan) : Type 0 where
+pub record WholeRun (plan : Plan) : Type 0 where
   pub log : List Entry
   pub end : State
   pub last : Notes
@@ -117,7 +117,7 @@ module _ {plan : Plan} (can : CanStart plan) where
       go (inr w) = ap notesOf (w .1)
 
   -- both together
-  finish : (r : AllPlayed plan (start plan) (atFirst plan)) → AllCarried plan (r .last) (r .end) (starts (plan .site) (r .last .marks)) → Ran plan
+  finish : (r : AllPlayed plan (start plan) (atFirst plan)) → AllCarried plan (r .last) (r .end) (starts (plan .site) (r .last .marks)) → WholeRun plan
   unfolding pathsFrom
   finish r c =
       record {
@@ -175,5 +175,5 @@ module _ {plan : Plan} (can : CanStart plan) where
       twice : (x a : ℕ) → (2 * x + 1) * a ≡ 2 * a * x + a
       twice x a = add-mul (2 * x) 1 a ∙ omega (arith, mul-right-comm 2 x a)
 
-  pub ran : Ran plan
-  ran = finish rounds (carried rounds)
+  pub whole-run : WholeRun plan
+  whole-run = finish rounds (carried rounds)

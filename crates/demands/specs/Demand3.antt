@@ -49,7 +49,7 @@ pub record Demand3 (call : Call) : Type 0 where
   pub one-largest : (M M′ : ℕ) → Largest (call .site) M → Largest (call .site) M′ → M ≡ M′
   -- with M that number the rounds are min(k, M+1), failed ones included
   pub rounds : (M : ℕ) → Largest (call .site) M → outcome call .rounds ≡ min (call .k) (M + 1)
-  -- messages are exactly the log's, so many bytes each
+  -- messages are exactly the log's, each of as many bytes
   pub messages : length (logBytes (runOf call .log)) ≡ messageBytes * outcome call .messages
   -- discovery tokens go over steps of the map, and no round sends one twice over a step, in either direction
   pub over-steps : (round a b : ℕ) → 0 < tokensIn round a b (runOf call .log) → (step (call .site) a b ≡ true) ⊎ (step (call .site) b a ≡ true)

@@ -68,12 +68,12 @@ resultOf call =
 
 -- ---- the table's rows
 
-pub record Row : Type 0 where
+pub record MapRow : Type 0 where
   pub made : Call
   pub result : Result
 
 -- n, links, S, T, k; full, the paths, rounds, messages, the cut, A. Each buffer is just long enough
-abbrev accepts : ℕ → List (ℕ × ℕ) → ℕ → ℕ → ℕ → Bool → List (List ℕ) → ℕ → ℕ → List ℕ → ℕ → Row
+abbrev accepts : ℕ → List (ℕ × ℕ) → ℕ → ℕ → ℕ → Bool → List (List ℕ) → ℕ → ℕ → List ℕ → ℕ → MapRow
 accepts n list S T k full paths rounds messages cut steps =
     let pathsLength = n - 2 + 3 * k in
     record {
@@ -82,7 +82,7 @@ accepts n list S T k full paths rounds messages cut steps =
     }
 
 -- n, cells, S, T, k; number, place. The buffers are 12, 3 and 1 bytes long
-abbrev refuses : ℕ → List ℕ → ℕ → ℕ → ℕ → ℕ → ℕ → Row
+abbrev refuses : ℕ → List ℕ → ℕ → ℕ → ℕ → ℕ → ℕ → MapRow
 refuses n table S T k number place =
     record {
       made = callOf n table S T k 12 3 1;
@@ -94,7 +94,7 @@ refuses n table S T k number place =
 abbrev Q : List (ℕ × ℕ)
 Q = (0, 1) ∷ (0, 4) ∷ (1, 2) ∷ (1, 6) ∷ (2, 3) ∷ (2, 5) ∷ (3, 4) ∷ (3, 7) ∷ (6, 7) ∷ []
 
-abbrev rows : List Row
+abbrev rows : List MapRow
 rows =
     accepts 2 ((0, 1) ∷ []) 0 1 1 true ((0 ∷ 1 ∷ []) ∷ []) 1 3 [] 1
     ∷ accepts 2 ((0, 1) ∷ []) 0 1 2 false ((0 ∷ 1 ∷ []) ∷ []) 2 3 (255 ∷ []) 1
@@ -109,7 +109,7 @@ rows =
     ∷ []
 
 -- every row of the table is what the definitions say
-pub ten-maps : map (λ (row : Row). resultOf (row .made)) rows ≡ map (λ (row : Row). row .result) rows
+pub ten-maps : map (λ (row : MapRow). resultOf (row .made)) rows ≡ map (λ (row : MapRow). row .result) rows
 unfolding sum firstOf linked links exists passes insideStep linkStep step A bad badAt badCell firstBad finding verdict mayWalk candidate canTry nextPlace gets nextMarked passOn release carry tries search reversed grant decline goOn innerStep start runOn walked cutItem itemOf runOf pathsFound cutFound pathBytes logBytes outcome logLeft pathsLeft cutLeft
 ten-maps = refl
 

@@ -14,7 +14,7 @@ use Rattle.tokens.specs.Run.{runOn, walked, cutItem, itemOf}
 use Rattle.outcome.specs.declared.Outcome.{Outcome}
 use Rattle.outcome.specs.Leaves.{runOf, pathsFound, cutFound, outcome, logLeft, pathsLeft, cutLeft}
 use Rattle.path_lists.specs.Bytes.{pathBytes}
-use Rattle.log.specs.Bytes.{logBytes}
+use Rattle.log.specs.Bytes.{messageBytes, logBytes}
 use Rattle.demands.specs.Promise.{Promise}
 
 -- two radios that are linked, and two that are not; one path is wanted, and the buffers are 12, 3 and 1 bytes long
@@ -53,7 +53,7 @@ not-nothing-written numbers before paths cut other p = other (ap (λ (log : List
 abbrev granted : ℕ → ℕ → List ℕ → ℕ
 granted round zero log = 0
 granted round (suc messages) log =
-    oneIf (eqb (getD log (4 * messages) 0) 3 && eqb (getD log (4 * messages + 1) 0) round && eqb (getD log (4 * messages + 3) 0) 1) + granted round messages log
+    oneIf (eqb (getD log (messageBytes * messages) 0) 3 && eqb (getD log (messageBytes * messages + 1) 0) round && eqb (getD log (messageBytes * messages + 3) 0) 1) + granted round messages log
 
 -- all paths found in round 1, with a second round for show: S has one PMT in each of the two rounds
 pub not-for-show : (numbers : Outcome) (log paths cut : List ℕ) → Promise diamond numbers log paths cut → (numbers .rounds ≡ 2) × (granted 1 24 log ≡ 1) × (granted 2 24 log ≡ 1)
@@ -64,8 +64,8 @@ not-for-show numbers log paths cut p = (
   ap (granted 2 24) (p .log-is),
 )
 
--- an invented message count: it is a quarter of the bytes of the log that the token rules fix, for every accepted call
-pub not-invented : (call : Call) (numbers : Outcome) (log paths cut : List ℕ) → Promise call numbers log paths cut → numbers .refusal ≡ 0 → 4 * numbers .messages ≡ length (logBytes (runOf call .log))
+-- an invented message count: so many messages have the bytes of the log that the token rules fix, for every accepted call
+pub not-invented : (call : Call) (numbers : Outcome) (log paths cut : List ℕ) → Promise call numbers log paths cut → numbers .refusal ≡ 0 → messageBytes * numbers .messages ≡ length (logBytes (runOf call .log))
 not-invented call numbers log paths cut p accepted =
     let taken : outcome call .refusal ≡ 0 = sym (ap (λ (o : Outcome). o .refusal) (p .numbers-are)) ∙ accepted in
     rw (ap (λ (o : Outcome). o .messages) (p .numbers-are)) (sym (p .demand-3 taken .messages))

@@ -109,7 +109,7 @@ module _ (site : Site) where
 -- ---- places
 
 -- from place i on, half h has an open place that leads to half y
-pub record Ahead (plan : Plan) (marks : Marks) (h i y : ℕ) : Type 0 where
+pub record OpenPlace (plan : Plan) (marks : Marks) (h i y : ℕ) : Type 0 where
   pub place : ℕ
   pub from : i ≤ place
   pub within : place < plan .site .n + 1
@@ -118,14 +118,14 @@ pub record Ahead (plan : Plan) (marks : Marks) (h i y : ℕ) : Type 0 where
 
 module _ {plan : Plan} (ordered : OrderOf plan) (marks : Marks) (h : ℕ) where
   -- every step that can be walked has its open place
-  pub placed : (y : ℕ) → walkable (networkOf (plan .site)) marks h y ≡ true → Ahead plan marks h 0 y
+  pub placed : (y : ℕ) → walkable (networkOf (plan .site)) marks h y ≡ true → OpenPlace plan marks h 0 y
   placed y w =
       let a : OpenNumber (plan .site) marks h y = walk-numbered (plan .site) marks h y w in
       let at = ordered .onto (a .number) (a .within) in
       record { place = at .0; from = omega arith; within = at .1; opens = rw (at .2) (a .opens); leads = rw (at .2) (a .leads) }
 
   -- two open places of one half lead to two halves
-  pub same-place : {i j y : ℕ} (a : Ahead plan marks h i y) (b : Ahead plan marks h j y) → a .place ≡ b .place
+  pub same-place : {i j y : ℕ} (a : OpenPlace plan marks h i y) (b : OpenPlace plan marks h j y) → a .place ≡ b .place
   same-place a b =
       ordered .once (a .place) (b .place) (a .within) (b .within)
       (same-number (plan .site) marks h _ _ (a .opens) (b .opens) (ordered .within (a .place) (a .within)) (ordered .within (b .place) (b .within)) (a .leads ∙ sym (b .leads)))

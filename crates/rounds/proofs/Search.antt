@@ -16,7 +16,7 @@ use Rattle.site.specs.Map.{inHalf, outHalf}
 use Rattle.tokens.specs.Rules.{Marks, Plan, Entered, Waiting, nobody, waits, onlyS, justS, candidate, canTry}
 use Rattle.menger.proofs.Network.{walkable, Way, Shut}
 use Rattle.routes.proofs.Trails.{networkOf}
-use Rattle.rounds.proofs.Order.{OrderOf, Ahead, open-walks, placed, same-place}
+use Rattle.rounds.proofs.Order.{OrderOf, OpenPlace, open-walks, placed, same-place}
 use Rattle.rounds.proofs.Once.{Unsent, without, without-less, without-this, without-other, without-cases}
 
 -- the halves that wait, the last one first
@@ -41,8 +41,8 @@ module _ (plan : Plan) (marks : Marks) where
   -- half h may still send to those at its open places from place i on, and to no other
   pub record Row (left : Unsent) (h i : ℕ) : Type 0 where
     pub within : i ≤ plan .site .n + 1
-    pub ahead : (y : ℕ) → left h y ≡ true → Ahead plan marks h i y
-    pub still : (y : ℕ) → Ahead plan marks h i y → left h y ≡ true
+    pub ahead : (y : ℕ) → left h y ≡ true → OpenPlace plan marks h i y
+    pub still : (y : ℕ) → OpenPlace plan marks h i y → left h y ≡ true
 
   abbrev pub Rows : Unsent → Waiting → Type 0
   Rows left nobody = Unit
@@ -95,7 +95,7 @@ module _ (plan : Plan) (marks : Marks) where
     abbrev y : ℕ
     y = candidate (plan .site) h (plan .order place)
 
-    abbrev here : Ahead plan marks h i y
+    abbrev here : OpenPlace plan marks h i y
     here = record { place = place; from = first .from; within = within; opens = first .found within; leads = refl }
 
     -- it was left
@@ -123,14 +123,14 @@ module _ (plan : Plan) (marks : Marks) where
       still = λ z a. without-other h y left h z (λ u v. other z a v) ∙ search .rows .0 .still z (record { place = a .place; from = omega (arith, a .from, first .from); within = a .within; opens = a .opens; leads = a .leads });
     }
       where
-        later : (z : ℕ) → without h y left h z ≡ true → (a : Ahead plan marks h i z) → Dec (a .place < place) → Dec (a .place ≡ place) → suc place ≤ a .place
+        later : (z : ℕ) → without h y left h z ≡ true → (a : OpenPlace plan marks h i z) → Dec (a .place < place) → Dec (a .place ≡ place) → suc place ≤ a .place
         later z l a (yes p) q = clash (a .opens) (first .before (a .place) (a .from) p)
         later z l a (no p) (yes q) =
             let same : z ≡ y = sym (a .leads) ∙ ap (λ p. candidate (plan .site) h (plan .order p)) q in
             clash l (rw same (without-this h y left))
         later z l a (no p) (no q) = omega arith
 
-        other : (z : ℕ) → Ahead plan marks h (suc place) z → z ≡ y → ⊥
+        other : (z : ℕ) → OpenPlace plan marks h (suc place) z → z ≡ y → ⊥
         other z a e = omega (arith, a .from, same-place ordered marks h (record { place = a .place; from = a .from; within = a .within; opens = a .opens; leads = a .leads ∙ e }) here)
 
     -- now one PDT fewer is left, and the half it goes to is met
