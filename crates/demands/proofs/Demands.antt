@@ -18,7 +18,7 @@ use Rattle.refusals.proofs.Exactly.{no-place}
 use Rattle.site.proofs.Valid.{Valid}
 use Rattle.refusals.proofs.Accepted.{Room, accepted-valid, accepted-room}
 use Rattle.tokens.specs.Rules.{Plan, Notes, won, carrying, rising, unmarked, start}
-use Rattle.tokens.specs.Run.{Entry, Run, notesOf, runFrom, cutOf}
+use Rattle.tokens.specs.Run.{Entry, notesOf, runFrom, cutOf}
 use Rattle.menger.proofs.Network.{Shut}
 use Rattle.menger.proofs.Flow.{Flow, no-flow}
 use Rattle.routes.proofs.Trails.{networkOf}
@@ -43,6 +43,7 @@ use Rattle.demands.proofs.AnyStart.{Delivers, delivers, larger-budget}
 rising-order : (n : ℕ) → Order n rising
 rising-order n = record { within = λ place p. p; onto = λ number p. (number, p, refl); once = λ i j p q e. e }
 
+-- what the run of a call is made from
 abbrev plain : Site → ℕ → Plan
 plain site k = record { site = site; k = k; order = rising; kept = 0; marks = unmarked }
 
@@ -59,7 +60,7 @@ plain-starts {site} valid k wanted = record {
 plain-budget : (site : Site) (k : ℕ) → (2 * (k - 0) + 1) * A site ≤ mostMessages site k
 plain-budget site k = rw (sub-zero k) (omega arith)
 
--- it delivers what demands 2 and 3 ask
+-- its run delivers what demands 2 and 3 ask
 plain-delivers : {site : Site} → Valid site → (k : ℕ) → 0 < k → Delivers (plain site k) (runFrom (plain site k) (mostMessages site k) (start (plain site k)))
 plain-delivers {site} valid k wanted = delivers (plain-starts valid k wanted) (mostMessages site k) (plain-budget site k)
 

@@ -14,7 +14,7 @@ use Rattle.basics.proofs.Counting.{first-from}
 use Rattle.site.specs.Map.{Site, inHalf, A}
 use Rattle.site.proofs.Valid.{Valid}
 use Rattle.tokens.specs.declared.Kind.the-variants.{Pdt, PdtB, Pmt}
-use Rattle.tokens.specs.Rules.{Marks, Plan, Entered, Notes, Waiting, nobody, waits, State, searching, granting, won, onlyS, justS, candidate, canTry, nextPlace, message, gets, tries, search, reversed, turning, entering, onePathMore, grant, decline, innerStep}
+use Rattle.tokens.specs.Rules.{Marks, Plan, Entered, Notes, Waiting, nobody, waits, searching, granting, won, justS, candidate, canTry, nextPlace, message, gets, tries, search, reversed, turning, entering, onePathMore, grant, decline, innerStep}
 use Rattle.tokens.specs.Run.{notesOf}
 use Rattle.menger.proofs.Network.{walkable, turned, allTurned, Walked, Split}
 use Rattle.menger.proofs.Walks.{walk-below, walkable-steps}
