@@ -1,10 +1,9 @@
 -- Four stores after the messages of a log are one message more. Assumes nothing.
-use mathlib.Core.Path.{_≡_, refl, ap, _∙_}
+use mathlib.Core.Path.{_≡_, refl, ap}
 use mathlib.Core.List.{List, [], _∷_, _++_, append-assoc}
 use Prim.Native.Nat.{ℕ, zero, suc, _+_, _*_, _≤_}
 use native.Mathlib.Omega.{arith}
 use lib.ListN.{length, set, drop, length-append, length-drop, length-set}
-use Rattle.tokens.specs.declared.Message.{Message}
 use Rattle.tokens.specs.Run.{Entry}
 use Rattle.log.specs.Bytes.{kindNumber, messageBytes, logBytes, Filled}
 use Rattle.log.specs.Put.{Appends}
