@@ -1,16 +1,14 @@
-// The cut list that a run leaves, and the zeros past the used bytes of every list.
+// The cut list that a run leaves: one item for each path, where it leaves the entered halves.
 ghost use mathlib.Core.Path.{_≡_};
 ghost use mathlib.Core.List.{List, _++_};
-ghost use Prim.Native.Nat.{ℕ, _-_, _≤_};
+ghost use Prim.Native.Nat.{ℕ};
 ghost use lib.Dec.{eqb};
-ghost use lib.ListN.{length, take, drop, replicate};
+ghost use lib.ListN.{drop};
 ghost use Rattle.site.specs.Map.{Site};
 ghost use Rattle.tokens.specs.Run.{atLink, itemOf, cutOf};
-ghost use Rattle.machine.specs.View.{enteredOf};
-ghost use Rattle.lists.specs.Cut.{Ends, Radios, Holds, Cuttable};
-
-// How a cut names the direct link between S and T: no radio has this number.
-const DIRECT_LINK: u8 = 255;
+ghost use Rattle.path_lists.specs.Bytes.{Holds};
+ghost use Rattle.halves.specs.Bytes.{enteredOf};
+ghost use Rattle.cut.specs.Cut.{Ends, Radios, Cuttable};
 
 // The item of a path that leaves the entered halves over the link from u to v: never T, and the direct link where u is S.
 fn at_link(u: u8, v: u8, s: usize, t: usize) -> u8
@@ -22,11 +20,11 @@ fn at_link(u: u8, v: u8, s: usize, t: usize) -> u8
     if u as usize != s {
         return u;
     }
-    DIRECT_LINK
+    site::DIRECT_LINK
 }
 
-// The cut item of one path, given its radios from S on and a byte for each half, 1 where the half is entered.
-pub fn cut_item(radios: &[u8], entered: &[u8; 128], s: usize, t: usize) -> u8
+// The cut item of one path, given its radios from S on and the entered halves.
+fn cut_item(radios: &[u8], entered: &[u8; 128], s: usize, t: usize) -> u8
     requires { ⌜ Radios (now radios) ⌝ }
     ensures { λ r. ⌜ ((site : Site) → Ends s t site → r ≡ itemOf site (enteredOf (now (entered .entry))) (now (radios .entry))) ⌝ }
 {
@@ -37,10 +35,10 @@ pub fn cut_item(radios: &[u8], entered: &[u8; 128], s: usize, t: usize) -> u8
     for i in 1..radios.len() {
         let v = radios[i];
         let half = 2 * (v as usize);
-        if entered[half] != 1 {
+        if !halves::is_entered(entered, half) {
             return at_link(u, v, s, t);
         }
-        if entered[half + 1] != 1 {
+        if !halves::is_entered(entered, half + 1) {
             return v;
         }
         u = v;
@@ -62,8 +60,9 @@ pub fn write_cut(
 {
     let mut at = 0;
     for i in 0..count {
-        let start = at + 1;
-        let end = start + (paths[at] as usize);
+        let part = path_lists::part_at(paths, at);
+        let start = part.start;
+        let end = part.end;
         cut[i] = cut_item(&paths[start..end], entered, s, t);
         at = end;
     }

@@ -13,7 +13,7 @@ use Rattle.basics.specs.Lists.{All}
 use Rattle.site.specs.Map.{Site, inHalf, outHalf}
 use Rattle.tokens.specs.Rules.{Entered}
 use Rattle.tokens.specs.Run.{atLink, cutItem, itemOf, cutOf}
-use Rattle.lists.specs.Cut.{Ends}
+use Rattle.cut.specs.Cut.{Ends}
 use Rattle.buffers.proofs.Stores.{store-next}
 
 -- what each of a list has, the one at an index has
