@@ -8,7 +8,7 @@ use native.Mathlib.Omega.{arith}
 use native.Mathlib.Nat.{div-add-mod'}
 use lib.Dec.{eqb, ltb}
 use lib.ListN.{getD}
-use borrow.Author.Tests.{eq-eqb, ltb-true, ltb-false}
+use borrow.Author.Tests.{eq-eqb, ne-eqb, ltb-true, ltb-false}
 use Rattle.basics.specs.Counting.{First}
 use Rattle.basics.specs.Numbered.{Conditions, Lawful}
 use Rattle.basics.proofs.Bools.{clash, or-left, or-right, Tells, tells-below, tells-not-below, tells-equal, tells-or, tells-and, tells-not, tells-same}
@@ -148,6 +148,26 @@ room-exact n k steps logLength pathsLength cutLength =
 pub call-exact : (call : Call) → Exact (call .site .table) (call .site .n) (conditions call) (verdict call)
 unfolding verdict
 call-exact call = map-exact _ _ then pair-exact _ _ _ _ then room-exact _ _ _ _ _ _
+
+-- which part a call's verdict is
+module _ (call : Call) where
+  abbrev on-map : Verdict
+  on-map = mapVerdict (call .site .table) (call .site .n)
+
+  abbrev on-pair : Verdict
+  on-pair = pairVerdict (call .site .n) (call .site .S) (call .site .T) (call .k)
+
+  pub told-by-map : (number on-map ≡ 0 → ⊥) → verdict call ≡ on-map
+  unfolding verdict
+  told-by-map refused = simp (ne-eqb _ _ refused)
+
+  pub told-by-pair : number on-map ≡ 0 → (number on-pair ≡ 0 → ⊥) → verdict call ≡ on-pair
+  unfolding verdict
+  told-by-pair accepted refused = simp (eq-eqb _ _ accepted, ne-eqb _ _ refused)
+
+  pub told-by-room : number on-map ≡ 0 → number on-pair ≡ 0 → verdict call ≡ roomVerdict (call .site .n) (call .k) (A (call .site)) (call .logLength) (call .pathsLength) (call .cutLength)
+  unfolding verdict
+  told-by-room accepted fine = simp (eq-eqb _ _ accepted, eq-eqb _ _ fine)
 
 -- only 3 has a place
 pub no-place : (v : Verdict) → (number v ≡ 3 → ⊥) → placeOf v ≡ 0
