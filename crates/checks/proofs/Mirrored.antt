@@ -15,7 +15,8 @@ use Rattle.radios.proofs.Laws.{member-empty}
 use Rattle.site.specs.Map.{linked}
 use Rattle.refusals.specs.Refusals.{badAt, finding}
 use Rattle.refusals.specs.declared.Finding.the-variants.{Sound}
-use Rattle.checks.specs.Checked.{AgreeTo, RowsOfLinks, joined}
+use Rattle.checks.specs.Checked.{AgreeTo, joined}
+use Rattle.radios.specs.Links.{RowsOfLinks}
 use Rattle.checks.proofs.Rows.{inRows}
 use Rattle.checks.proofs.Cells.{not-bad, linked-good, linked-apart, linked-itself, linked-outside}
 use Rattle.checks.proofs.Spreading.{swap}

@@ -8,7 +8,8 @@ use native.Mathlib.Omega.{arith}
 use Rattle.basics.specs.Counting.{oneIf, sum}
 use Rattle.basics.proofs.Counting.{sum-ext}
 use Rattle.site.specs.Map.{linked, degree}
-use Rattle.checks.specs.Checked.{RowsOfLinks, size}
+use Rattle.checks.specs.Checked.{size}
+use Rattle.radios.specs.Links.{RowsOfLinks}
 use Rattle.checks.proofs.Cells.{linked-outside}
 
 -- one number more

@@ -20,7 +20,8 @@ use Rattle.refusals.specs.declared.Verdict.{Verdict}
 use Rattle.refusals.specs.declared.Verdict.the-variants.{Accepted, Radios, TableLength, Cell, Links, Ends, Wanted, Log, Lists}
 use Rattle.refusals.proofs.Exactly.{map-exact, pair-exact, told-by-map, told-by-pair, told-by-room}
 use Rattle.refusals.proofs.Accepted.{SoundMap, sound-map, GoodPair, good-pair}
-use Rattle.checks.specs.Checked.{RowsOfLinks, size, Countable, mostSteps, MapJudged, Judged}
+use Rattle.checks.specs.Checked.{size, Countable, mostSteps, MapJudged, Judged}
+use Rattle.radios.specs.Links.{RowsOfLinks}
 use Rattle.checks.specs.declared.MapAnswer.{MapAnswer}
 use Rattle.checks.proofs.Scan.{sound-even}
 use Rattle.checks.proofs.Sizes.{size-degree}

@@ -7,9 +7,10 @@ use Prim.Native.Nat.{ℕ, _+_, _*_, _≤_, _<_}
 use lib.Dec.{eqb}
 use lib.ListN.{getD}
 use Rattle.basics.specs.Counting.{count}
+use Rattle.radios.specs.Links.{RowsOfLinks}
 use Rattle.radios.specs.Member.{member}
 use Rattle.site.specs.Limits.{mostRadios, mostLinks}
-use Rattle.site.specs.Map.{linked, links}
+use Rattle.site.specs.Map.{links}
 use Rattle.refusals.specs.Refusals.{Call, finding, mapVerdict, verdict, number}
 use Rattle.refusals.specs.declared.Finding.{Finding}
 use Rattle.refusals.specs.declared.Finding.the-variants.{Sound}
@@ -19,10 +20,6 @@ use Rattle.checks.specs.declared.MapAnswer.{MapAnswer}
 -- two sets have the same radios up to i
 abbrev pub AgreeTo : ℕ → ℕ → ℕ → Type 0
 AgreeTo x y i = (j : ℕ) → j ≤ i → member j x ≡ member j y
-
--- row u is the set of the radios that u is linked to
-abbrev pub RowsOfLinks : List ℕ → ℕ → List ℕ → Type 0
-RowsOfLinks table n rows = (u v : ℕ) → member v (getD rows u 0) ≡ linked table n u v
 
 -- how many radios are in row u
 abbrev pub size : List ℕ → ℕ → ℕ

@@ -1,5 +1,5 @@
 -- What demands 2 and 3 say, of the run of any plan that can start: any order of trying, any marks to begin with. Assumes nothing.
-use mathlib.Core.Path.{_≡_, sym, _∙_}
+use mathlib.Core.Path.{_≡_, sym, ap, _∙_, subst}
 use mathlib.Core.Bool.{true}
 use mathlib.Core.List.{List}
 use mathlib.Core.Logic.{_⊎_, _↔_, inl, inr}
@@ -11,7 +11,7 @@ use lib.ListN.{length}
 use Rattle.basics.specs.Lists.{All, InOrder}
 use Rattle.site.specs.Map.{inHalf, outHalf, A}
 use Rattle.site.specs.Paths.{DisjointPaths, Largest, Meets, Cut}
-use Rattle.tokens.specs.Rules.{Plan, Notes, won, carrying, over, innerStep, start}
+use Rattle.tokens.specs.Rules.{Plan, Notes, State, won, carrying, over, innerStep, start}
 use Rattle.tokens.specs.Run.{Entry, Run, notesOf, runFrom, pathsOf, cutOf}
 use Rattle.menger.proofs.Network.{Shut}
 use Rattle.menger.proofs.Flow.{Flow}
@@ -25,9 +25,10 @@ use Rattle.routes.proofs.Split.{split-of}
 use Rattle.routes.proofs.Most.{largest}
 use Rattle.rounds.proofs.Shows.{Leads}
 use Rattle.demands.proofs.Rounds.{FullOrLost}
-use Rattle.demands.proofs.Told.{DonesLast}
+use Rattle.log.specs.Last.{DonesLast}
+use Rattle.demands.proofs.Opening.{led-found}
 use Rattle.demands.proofs.Tokens.{Orderly}
-use Rattle.demands.proofs.Whole.{CanStart, WholeRun, run-is, whole-run}
+use Rattle.demands.proofs.Whole.{CanStart, WholeRun, run-is, starts-searching, whole-run}
 
 -- the cut that the halves entered in the last round make
 abbrev pub lastCut : Plan → Run → List ℕ
@@ -69,6 +70,8 @@ pub record Delivers (plan : Plan) (run : Run) : Type 0 where
   pub one-marked-link : (h a b : ℕ) → (h ≡ outHalf (plan .site .S) → ⊥) → notesOf (run .last) .marks h a ≡ true → notesOf (run .last) .marks h b ≡ true → a ≡ b
   -- the run ends with DONE at T, unless there is no path: DONE never fails on its way
   pub at-T : (notesOf (run .last) .found ≡ 0) ⊎ ((v : ℕ) × (run .last ≡ carrying v (inHalf (plan .site .T)) (notesOf (run .last))))
+  -- so it never ends on a won round that another might follow
+  pub not-won : (notes : Notes) → run .last ≡ won notes → ⊥
   -- no round is played after the first DONE
   pub dones-last : DonesLast (run .log)
 
@@ -138,9 +141,18 @@ module _ {plan : Plan} (can : CanStart plan) (r : WholeRun plan) where
         leaves-once = rw (r .told, r .paths) (λ p. each-leaves-once (can .valid) (r .flow) (last-shut p));
         one-marked-link = rw (r .told) (λ h a b not-S e f. one-out (split-of (plan .site) (can .valid)) (r .flow) h a b e f not-S);
         at-T = rw (r .told) (r .at-T);
+        not-won = λ notes e. not-won notes e (r .at-T);
         dones-last = r .dones-last;
       }
     where
+      -- a round that is won has found a path, and then DONE follows
+      not-won : (notes : Notes) → r .end ≡ won notes → (r .last .found ≡ 0) ⊎ ((v : ℕ) × (r .end ≡ carrying v (inHalf (plan .site .T)) (r .last))) → ⊥
+      not-won notes e (inl none) =
+          let same : notes .found ≡ r .last .found = ap (λ (s : State). notesOf s .found) (sym e) ∙ ap (λ (n : Notes). n .found) (r .told) in
+          let searches = starts-searching plan (omega (arith, r .more, none, can .wanted)) in
+          omega (arith, same, led-found plan (start plan) (r .log) notes (subst (Leads plan (start plan) (r .log)) e (r .leads)) (rw searches tt))
+      not-won notes e (inr w) = let z : _≡_ {A = ℕ} 0 1 = cc in omega arith
+
       enough : ((paths : List (List ℕ)) → DisjointPaths (plan .site) paths → length paths ≡ plan .k → ⊥) → Dec (r .last .found < plan .k) → r .last .found < plan .k
       enough none (yes p) = p
       enough none (no p) = absurd (none _ disjoint-paths (omega (arith, number-of-paths, most-found)))

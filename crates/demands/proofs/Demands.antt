@@ -34,7 +34,8 @@ use Rattle.path_lists.specs.Bytes.{pathBytes}
 use Rattle.buffers.specs.Zeros.{zerosAfter}
 use Rattle.demands.specs.Demand2.{Demand2}
 use Rattle.demands.specs.Demand3.{Demand3}
-use Rattle.demands.proofs.Told.{DonesLast}
+use Rattle.log.specs.Last.{DonesLast}
+use Rattle.log.proofs.Bytes.{log-length}
 use Rattle.demands.proofs.Whole.{CanStart}
 use Rattle.demands.proofs.AnyStart.{Delivers, delivers, larger-budget}
 
@@ -74,12 +75,6 @@ some-largest {site} valid = (_, d .most (omega (arith, few-units valid (d .flow)
     d = plain-delivers valid (suc (site .n)) (omega arith)
 
 -- ---- bytes
-
--- the bytes of all messages
-pub log-bytes : (log : List Entry) → length (logBytes log) ≡ messageBytes * length log
-unfolding logBytes
-log-bytes [] = refl
-log-bytes (e ∷ log) = omega (arith, log-bytes log)
 
 -- a byte for each path and one for each radio on it
 pub path-bytes : (paths : List (List ℕ)) → length (pathBytes paths) ≡ radiosIn paths + length paths
@@ -168,14 +163,14 @@ module _ (call : Call) (accepted : outcome call .refusal ≡ 0) where
         largest = some-largest valid;
         one-largest = λ M M′. largest-unique;
         rounds = λ M l. omega (arith, rounds-started, d .rounds M l);
-        messages = log-bytes (runOf call .log) ∙ omega (arith, messages-sent);
+        messages = log-length (runOf call .log) ∙ omega (arith, messages-sent);
         over-steps = d .orderly .over-steps;
         once = d .orderly .once;
         one-reply = d .orderly .one-reply;
         none-before = d .orderly .none-before;
         bound = rw (messages-sent, rounds-started) (d .bound);
         ends = d .ends;
-        log-fits = omega (arith, log-bytes (runOf call .log), d .fits, plain-budget (call .site) (call .k), room .log);
+        log-fits = omega (arith, log-length (runOf call .log), d .fits, plain-budget (call .site) (call .k), room .log);
         paths-fit = omega (arith, path-bytes (pathsFound call), few-bytes (call .site) valid (pathsFound call) (d .disjoint), paths-counted, at-most, room .paths);
         cut-fits = fits (decLt (notesOf (runOf call .last) .found) (call .k));
       }
@@ -210,6 +205,10 @@ module _ (call : Call) (accepted : outcome call .refusal ≡ 0) where
   -- the run ends with DONE at T, unless there is no path: DONE never fails on its way
   pub done-comes-to-T : (outcome call .paths ≡ 0) ⊎ ((v : ℕ) × (runOf call .last ≡ carrying v (inHalf (call .site .T)) (notesOf (runOf call .last))))
   done-comes-to-T = rw paths-found (d .at-T)
+
+  -- so the run never ends on a won round
+  pub never-ends-won : (notes : Notes) → runOf call .last ≡ won notes → ⊥
+  never-ends-won = d .not-won
 
   -- no round is played after the first DONE
   pub log-ends-with-dones : DonesLast (runOf call .log)

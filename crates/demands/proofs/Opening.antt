@@ -1,5 +1,5 @@
 -- The machine leaves no choice: one log is an opening part of another, and a round is not won in its middle. Assumes nothing.
-use mathlib.Core.Path.{_≡_, refl, sym, ap, ap₂, _∙_}
+use mathlib.Core.Path.{_≡_, refl, sym, ap, ap₂, _∙_, subst}
 use mathlib.Core.Bool.{Bool, true, false, cond}
 use mathlib.Core.List.{List, [], _∷_, _++_}
 use mathlib.Core.Logic.{_⊎_, inl, inr}
@@ -12,7 +12,7 @@ use Rattle.site.specs.Map.{Site, inHalf, outHalf, isOut}
 use Rattle.tokens.specs.declared.Kind.{Kind}
 use Rattle.tokens.specs.declared.Kind.the-variants.{Pdt, PdtB, Pmt, Done}
 use Rattle.tokens.specs.declared.Message.{Message}
-use Rattle.tokens.specs.Rules.{Plan, Notes, Waiting, nobody, State, searching, declining, granting, won, carrying, Next, sends, over, message, begun, nextPlace, gets, nextMarked, passOn, release, carry, tries, search, goOn, innerStep}
+use Rattle.tokens.specs.Rules.{Plan, Notes, Waiting, nobody, waits, State, searching, declining, granting, won, carrying, Next, sends, over, message, begun, justS, nextPlace, gets, nextMarked, passOn, release, carry, tries, search, grant, decline, goOn, innerStep}
 use Rattle.tokens.specs.Run.{Entry, notesOf}
 use Rattle.rounds.proofs.Shows.{Leads, inRound, Due, dueAfter, Answered}
 
@@ -158,3 +158,70 @@ pub no-more-won : (plan : Plan) (state : State) (log : List Entry) (end : State)
 no-more-won plan state [] end c some leads = absurd (omega arith)
 no-more-won plan state (e ∷ []) end c some leads = rw (leads .3) at (rw (leads .1) at c)
 no-more-won plan state (e ∷ f ∷ log) end c some leads = no-more-won plan (leads .0) (f ∷ log) end (carrying-stays plan (leads .0) (rw (leads .1) at c)) (omega arith) (leads .3)
+
+-- ---- a state in which a round is won has found a path
+
+abbrev WonFound : State → Type 0
+WonFound (searching notes waiting) = Unit
+WonFound (declining y notes waiting) = Unit
+WonFound (granting y notes waiting) = Unit
+WonFound (won notes) = 0 < notes .found
+WonFound (carrying v h notes) = Unit
+
+abbrev ThenFound : Next → Type 0
+ThenFound (sends m next) = WonFound next
+ThenFound over = Unit
+
+pass-found : (site : Site) (h v w : ℕ) (notes : Notes) → ThenFound (passOn site h v w notes)
+unfolding passOn
+pass-found site h v w notes = go (ltb w (site .n))
+  where
+    go : (b : Bool) → ThenFound (cond b (sends (message Done h (inHalf w)) (carrying v (inHalf w) notes)) over)
+    go true = tt
+    go false = tt
+
+release-found : (site : Site) (v : ℕ) (notes : Notes) → ThenFound (release site v notes)
+unfolding release
+release-found site v notes = pass-found site _ _ _ notes
+
+gets-found : (goal before : Bool) (y : ℕ) (notes : Notes) (waiting : Waiting) → WonFound (gets goal before y notes waiting)
+unfolding gets
+gets-found true before y notes waiting = tt
+gets-found false true y notes waiting = tt
+gets-found false false y notes waiting = tt
+
+tries-found : (b : Bool) (plan : Plan) (h place : ℕ) (notes : Notes) (rest : Waiting) → ThenFound (tries b plan h place notes rest)
+unfolding tries
+tries-found true plan h place notes rest = gets-found _ _ _ notes _
+tries-found false plan h place notes nobody = release-found (plan .site) 0 notes
+tries-found false plan h place notes (waits asker j rest) = tt
+
+search-found : (plan : Plan) (notes : Notes) (waiting : Waiting) → ThenFound (search plan notes waiting)
+unfolding search
+search-found plan notes nobody = tt
+search-found plan notes (waits h i rest) = tries-found _ plan h _ notes rest
+
+step-found : (plan : Plan) (state : State) → ThenFound (innerStep plan state)
+unfolding innerStep decline grant goOn carry
+step-found plan (searching notes waiting) = search-found plan notes waiting
+step-found plan (declining y notes nobody) = tt
+step-found plan (declining y notes (waits h i rest)) = tt
+step-found plan (granting y notes nobody) = tt
+step-found plan (granting y notes (waits h i nobody)) = omega arith
+step-found plan (granting y notes (waits h i (waits asker j rest))) = tt
+step-found plan (won notes) = go (ltb (notes .found) (plan .k))
+  where
+    go : (b : Bool) → ThenFound (goOn b plan notes)
+    go true = search-found plan (begun (plan .site) notes) (justS (plan .site))
+    go false = release-found (plan .site) 0 notes
+step-found plan (carrying v h notes) = go (eqb h (inHalf (plan .site .T))) (isOut h)
+  where
+    go : (arrived out : Bool) → ThenFound (carry arrived out (plan .site) v h notes)
+    go true out = release-found (plan .site) (suc v) notes
+    go false true = pass-found (plan .site) h v _ notes
+    go false false = tt
+
+-- so it is wherever messages have led to
+pub led-found : (plan : Plan) (state : State) (log : List Entry) (notes : Notes) → Leads plan state log (won notes) → WonFound state → 0 < notes .found
+led-found plan state [] notes leads found = subst WonFound leads found
+led-found plan state (e ∷ log) notes leads found = led-found plan (leads .0) log notes (leads .3) (subst ThenFound (leads .1) (step-found plan state))

@@ -24,11 +24,12 @@ use Rattle.routes.proofs.Split.{split-of}
 use Rattle.routes.proofs.Starts.{starts-marked, starts-number, onward-marked}
 use Rattle.routes.proofs.Trails.{networkOf, trailOf, starts, pathsFrom}
 use Rattle.rounds.proofs.Shows.{Leads, inRound, Plays}
+use Rattle.log.specs.Last.{DonesLast}
 use Rattle.demands.proofs.Carried.{leads-on, in-round-length, donesOf, all-done, standsAt, AllCarried, all-carried}
 use Rattle.demands.proofs.Few.{dones-few}
 use Rattle.demands.proofs.Opening.{opens, release-carries, no-more-won}
 use Rattle.demands.proofs.Rounds.{FullOrLost, AllPlayed, all-played}
-use Rattle.demands.proofs.Told.{DonesLast, silent, dones-last, read-all}
+use Rattle.demands.proofs.Told.{silent, dones-last, read-all}
 use Rattle.demands.proofs.Tokens.{Orderly, then-dones}
 
 -- what a run may start from: a valid map, a search that plays its rounds, marks that are a flow of as many units as paths are kept, and no more of these than are wanted
@@ -71,7 +72,7 @@ run-is plan (suc budget) state (e ∷ log) end leads ends fits = rw (leads .1, r
 -- ---- the start
 
 -- round 1 begins at once
-starts-searching : (plan : Plan) → plan .kept < plan .k → start plan ≡ searching (begun (plan .site) (atFirst plan)) (justS (plan .site))
+pub starts-searching : (plan : Plan) → plan .kept < plan .k → start plan ≡ searching (begun (plan .site) (atFirst plan)) (justS (plan .site))
 unfolding start
 starts-searching plan p = rw (lt-ltb (plan .kept) (plan .k) p)
 

@@ -26,7 +26,7 @@ use Rattle.machine.specs.declared.Stage.the-variants.{Searching, Declini
 use Rattle.machine.specs.declared.Machine.{Machine}
 use Rattle.machine.specs.declared.Stepped.{Stepped}
 use Rattle.machine.specs.View.{marksOf, enteredOf, tried, waitingOf, notesIn, stateIn, stackOf, stateOf}
-use Rattle.machine.specs.Step.{Fits, TopUntried, Ready, Gives, Follows, Received}
+use Rattle.machine.specs.Step.{Fits, TopUntried, Ready, Agrees, Follows, Received}
 use Rattle.machine.proofs.Stages.{tried-across, in-stage, sane-in, untried-in, Top, on-top, asks-next, asks-no-more}
 
 -- the machine at another stage, and a message sent
@@ -79,18 +79,18 @@ module _ (site : Site) (machine next : Machine) (y left : ℕ) (rows entered ent
 
 module _ (site : Site) (machine : Machine) (stepped : Stepped) (rows entered halves : List ℕ) (h v w : ℕ) where
   pub passed : (next : Machine) (left : ℕ) → w < site .n → next ≡ movedTo machine Carrying (2 * w) v left 0 → stepped ≡ sentBy (message Done h (2 * w)) next
-      → Gives site (passOn site h v w (notesIn site machine rows entered)) stepped rows entered halves
+      → Agrees site (passOn site h v w (notesIn site machine rows entered)) stepped rows entered halves
   unfolding passOn
   passed next left l m e = rw (e, m) (record { place = 0; untried = tt; answers = rw (lt-ltb w (site .n) l) refl })
 
-  pub not-passed : (place : ℕ) → site .n ≤ w → TopUntried site place machine rows → Gives site (passOn site h v w (notesIn site machine rows entered)) (record { answer = End; machine = machine }) rows entered halves
+  pub not-passed : (place : ℕ) → site .n ≤ w → TopUntried site place machine rows → Agrees site (passOn site h v w (notesIn site machine rows entered)) (record { answer = End; machine = machine }) rows entered halves
   unfolding passOn
   not-passed place l untried = record { place = place; untried = untried; answers = rw (le-ltb w (site .n) l) refl }
 
 module _ (site : Site) (machine : Machine) (stepped : Stepped) (rows entered halves : List ℕ) (v w : ℕ) where
   abbrev Sends : ℕ → Type 0
-  Sends s = nextMarked site (marksOf site rows) (outHalf s) v ≡ w → Gives site (passOn site (outHalf s) w w (notesIn site machine rows entered)) stepped rows entered halves
-      → Gives site (release site v (notesIn site machine rows entered)) stepped rows entered halves
+  Sends s = nextMarked site (marksOf site rows) (outHalf s) v ≡ w → Agrees site (passOn site (outHalf s) w w (notesIn site machine rows entered)) stepped rows entered halves
+      → Agrees site (release site v (notesIn site machine rows entered)) stepped rows entered halves
 
   S-sends : Sends (site .S)
   unfolding release
@@ -116,7 +116,7 @@ module _ {plan : Plan} {place : ℕ} {task : Task} {machine : Machine} {links ro
 
   -- what is given from the state at its stage follows
   follows-at : (stage : Stage) → machine .stage ≡ stage → (stepped : Stepped) (rows′ entered′ halves′ : List ℕ) → Open (plan .site) (marksOf (plan .site) rows′) rows′
-      → Gives (plan .site) (innerStep plan (From stage)) stepped rows′ entered′ halves′ → Leaves stepped rows′ entered′ halves′
+      → Agrees (plan .site) (innerStep plan (From stage)) stepped rows′ entered′ halves′ → Leaves stepped rows′ entered′ halves′
   follows-at stage e stepped rows′ entered′ halves′ walks gives =
       record {
         walks = walks;
@@ -124,7 +124,7 @@ module _ {plan : Plan} {place : ℕ} {task : Task} {machine : Machine} {links ro
       }
 
   pub carrying-releases : machine .stage ≡ Carrying → machine .half ≡ 2 * task .t → (stepped : Stepped)
-      → Gives (plan .site) (release (plan .site) (machine .other + 1) Now) stepped rows entered halves → Leaves stepped rows entered halves
+      → Agrees (plan .site) (release (plan .site) (machine .other + 1) Now) stepped rows entered halves → Leaves stepped rows entered halves
   unfolding innerStep carry
   carrying-releases e t stepped gives =
       follows-at Carrying e stepped rows entered halves (ready .walks)
@@ -138,7 +138,7 @@ module _ {plan : Plan} {place : ℕ} {task : Task} {machine : Machine} {links ro
   not-T t = ne-eqb (machine .half) (inHalf (plan .site .T)) (λ e. t (e ∙ ap inHalf (ready .made .sink)))
 
   pub carrying-passes : machine .stage ≡ Carrying → (machine .half ≡ 2 * task .t → ⊥) → machine .half % 2 ≡ 1 → (w : ℕ) → nextMarked (plan .site) (marksOf (plan .site) rows) (machine .half) 0 ≡ w → (stepped : Stepped)
-      → Gives (plan .site) (passOn (plan .site) (machine .half) (machine .other) w Now) stepped rows entered halves → Leaves stepped rows entered halves
+      → Agrees (plan .site) (passOn (plan .site) (machine .half) (machine .other) w Now) stepped rows entered halves → Leaves stepped rows entered halves
   unfolding innerStep carry
   carrying-passes e t out w is stepped gives =
       follows-at Carrying e stepped rows entered halves (ready .walks)
@@ -157,7 +157,7 @@ module _ {plan : Plan} {place : ℕ} {task : Task} {machine : Machine} {links ro
   declining-replies e stepped next other m s =
       follows-at Declining e stepped rows entered halves (ready .walks) (rw (s, m) (record { place = place; untried = untried-in ready Declining e; answers = refl }))
 
-  pub last-releases : machine .stage ≡ Won → task .k ≤ machine .found → (stepped : Stepped) → Gives (plan .site) (release (plan .site) 0 Now) stepped rows entered halves → Leaves stepped rows entered halves
+  pub last-releases : machine .stage ≡ Won → task .k ≤ machine .found → (stepped : Stepped) → Agrees (plan .site) (release (plan .site) 0 Now) stepped rows entered halves → Leaves stepped rows entered halves
   unfolding innerStep goOn
   last-releases e full stepped gives =
       follows-at Won e stepped rows entered halves (ready .walks)
@@ -191,7 +191,7 @@ module _ {plan : Plan} {place : ℕ} {task : Task} {machine : Machine} {links ro
         asks-no-more plan Now (machine .half) place Rest (search-top .half)
         (none-left plan (marksOf (plan .site) rows) (machine .half) place (ready .made .order) (search-top .half) (subst (Untried (plan .site) (marksOf (plan .site) rows) (machine .half) place) none search-untried))
 
-    pub searching-fails : machine .left ≡ 0 → (stepped : Stepped) → machine .depth ≡ 0 → Gives (plan .site) (release (plan .site) 0 Now) stepped rows entered halves → Leaves stepped rows entered halves
+    pub searching-fails : machine .left ≡ 0 → (stepped : Stepped) → machine .depth ≡ 0 → Agrees (plan .site) (release (plan .site) 0 Now) stepped rows entered halves → Leaves stepped rows entered halves
     unfolding tries
     searching-fails none stepped bottom gives =
         follows-at Searching e stepped rows entered halves (ready .walks) (record { place = gives .place; untried = gives .untried; answers = no-more none ∙ rw bottom (gives .answers) })

@@ -7,7 +7,8 @@ use Rattle.site.specs.Limits.{mostPaths, mostRadios}
 use lib.Dec.{eqb}
 use Rattle.site.specs.Map.{Site, inHalf}
 use Rattle.tokens.specs.Rules.{Plan, State, Next, rising, innerStep, gets, waits}
-use Rattle.openings.specs.Rows.{Open, Untried, Links}
+use Rattle.openings.specs.Rows.{Open, Untried}
+use Rattle.radios.specs.Links.{RowsOfLinks}
 use Rattle.machine.specs.declared.Task.{Task}
 use Rattle.machine.specs.declared.Stage.{Stage}
 use Rattle.machine.specs.declared.Stage.the-variants.{Searching, Declining, Granting, Won, Carrying}
@@ -32,7 +33,7 @@ pub record Made (plan : Plan) (task : Task) (links : List ℕ) : Type 0 where
   pub sink : plan .site .T ≡ task .t
   pub wanted : plan .k ≡ task .k
   pub order : plan .order ≡ rising
-  pub linked : Links (plan .site) links
+  pub linked : RowsOfLinks (plan .site .table) (plan .site .n) links
 
 -- a half that searches, now or once it is declined, holds what it has not tried from this place on
 abbrev pub WhileSeeking : Stage → Type 0 → Type 0
@@ -53,7 +54,7 @@ pub record Ready (plan : Plan) (place : ℕ) (task : Task) (machine : Machine) (
   pub sane : Sane plan (stateOf (plan .site) place machine rows entered halves)
 
 -- the definition's word for what happens next is what was answered, with the half on top at some place
-pub record Gives (site : Site) (next : Next) (stepped : Stepped) (rows entered halves : List ℕ) : Type 0 where
+pub record Agrees (site : Site) (next : Next) (stepped : Stepped) (rows entered halves : List ℕ) : Type 0 where
   pub place : ℕ
   pub untried : TopUntried site place (stepped .machine) rows
   pub answers : next ≡ nextOf (stepped .answer) (stateOf site place (stepped .machine) rows entered halves)
@@ -61,7 +62,7 @@ pub record Gives (site : Site) (next : Next) (stepped : Stepped) (rows entered h
 -- so it is of an inner step, for every plan and place that it can be
 pub record Follows (plan : Plan) (before : State) (stepped : Stepped) (rows entered halves : List ℕ) : Type 0 where
   pub walks : Open (plan .site) (marksOf (plan .site) rows) rows
-  pub gives : Gives (plan .site) (innerStep plan before) stepped rows entered halves
+  pub gives : Agrees (plan .site) (innerStep plan before) stepped rows entered halves
 
 abbrev pub Steps : Task → Machine → List ℕ → List ℕ → List ℕ → List ℕ → Stepped → List ℕ → List ℕ → List ℕ → Type 0
 Steps task machine links rows entered halves stepped rows′ entered′ halves′ =

@@ -9,7 +9,7 @@ ghost use Rattle.site.specs.Map.{Site};
 ghost use Rattle.tokens.specs.Rules.{Plan, waits, passOn, release};
 ghost use Rattle.openings.specs.Rows.{Open, Untried};
 ghost use Rattle.machine.specs.View.{isWon, marksOf, enteredOf, tried, waitingOf, notesIn, stateOf, nextOf};
-ghost use Rattle.machine.specs.Step.{Fits, Made, TopUntried, Gives, Ready, Steps, Received, Rounds};
+ghost use Rattle.machine.specs.Step.{Fits, Made, TopUntried, Agrees, Ready, Steps, Received, Rounds};
 use tokens::Answer;
 use tokens::Kind;
 use tokens::Message;
@@ -118,7 +118,7 @@ fn push(halves: &mut [u8; 128], depth: usize, h: usize)
 // Half h passes DONE over its marked step to radio w, where w is a radio. S sent it to radio v.
 fn pass_on(n: usize, machine: Machine, h: usize, v: usize, w: usize) -> Stepped
     requires { ⌜ n ≤ mostRadios ⌝ }
-    ensures { λ r. ⌜ ((site : Site) (place : ℕ) (rows entered halves : List ℕ) → site .n ≡ n → TopUntried site place machine rows → Gives site (passOn site h v w (notesIn site machine rows entered)) r rows entered halves) ⌝ }
+    ensures { λ r. ⌜ ((site : Site) (place : ℕ) (rows entered halves : List ℕ) → site .n ≡ n → TopUntried site place machine rows → Agrees site (passOn site h v w (notesIn site machine rows entered)) r rows entered halves) ⌝ }
 {
     if w < n {
         return sent(
@@ -137,7 +137,7 @@ fn pass_on(n: usize, machine: Machine, h: usize, v: usize, w: usize) -> Stepped
 // S sends DONE to the first radio from v on that has a marked step from S; where there is none, all is done.
 fn releases(task: Task, machine: Machine, links: &[u64; 64], rows: &[u64; 128], v: usize) -> Stepped
     requires { ⌜ Fits task × (v ≤ task .n) ⌝ }
-    ensures { λ r. ⌜ ((plan : Plan) (place : ℕ) (entered halves : List ℕ) → Made plan task (now (links .entry)) → Open (plan .site) (marksOf (plan .site) (now (rows .entry))) (now (rows .entry)) → TopUntried (plan .site) place machine (now (rows .entry)) → Gives (plan .site) (release (plan .site) v (notesIn (plan .site) machine (now (rows .entry)) entered)) r (now (rows .entry)) entered halves) ⌝ }
+    ensures { λ r. ⌜ ((plan : Plan) (place : ℕ) (entered halves : List ℕ) → Made plan task (now (links .entry)) → Open (plan .site) (marksOf (plan .site) (now (rows .entry))) (now (rows .entry)) → TopUntried (plan .site) place machine (now (rows .entry)) → Agrees (plan .site) (release (plan .site) v (notesIn (plan .site) machine (now (rows .entry)) entered)) r (now (rows .entry)) entered halves) ⌝ }
 {
     let w = openings::next_marked(task.n, task.s, links, rows, task.s, v);
     pass_on(task.n, machine, 2 * task.s + 1, w, w)

@@ -7,7 +7,7 @@ use lib.Dec.{eqb}
 use lib.ListN.{set, replicate}
 use Rattle.basics.specs.Counting.{sum, firstOf}
 use Rattle.site.specs.Map.{linked, links, exists, passes, insideStep, linkStep, step, A}
-use Rattle.refusals.specs.Refusals.{Call, callOf, bad, badAt, badCell, firstBad, finding, verdict}
+use Rattle.refusals.specs.Refusals.{Call, callOf, bad, badAt, badCell, firstBad, finding, mapVerdict, pairVerdict, roomVerdict, verdict}
 use Rattle.tokens.specs.Rules.{mayWalk, candidate, canTry, nextPlace, gets, nextMarked, passOn, release, carry, tries, search, reversed, grant, decline, goOn, innerStep, start}
 use Rattle.tokens.specs.Run.{runOn, walked, cutItem, itemOf}
 use Rattle.outcome.specs.declared.Outcome.{Outcome}
@@ -110,7 +110,7 @@ rows =
 
 -- every row of the table is what the definitions say
 pub ten-maps : map (λ (row : MapRow). resultOf (row .made)) rows ≡ map (λ (row : MapRow). row .result) rows
-unfolding sum firstOf linked links exists passes insideStep linkStep step A bad badAt badCell firstBad finding verdict mayWalk candidate canTry nextPlace gets nextMarked passOn release carry tries search reversed grant decline goOn innerStep start runOn walked cutItem itemOf runOf pathsFound cutFound pathBytes logBytes outcome logLeft pathsLeft cutLeft
+unfolding sum firstOf linked links exists passes insideStep linkStep step A bad badAt badCell firstBad finding mapVerdict pairVerdict roomVerdict verdict mayWalk candidate canTry nextPlace gets nextMarked passOn release carry tries search reversed grant decline goOn innerStep start runOn walked cutItem itemOf runOf pathsFound cutFound pathBytes logBytes outcome logLeft pathsLeft cutLeft
 ten-maps = refl
 
 -- ---- the case given whole
@@ -146,5 +146,5 @@ wholeOf call = record { numbers = outcome call; log = logLeft call; pathList = p
 pub case-Q :
     wholeOf (callOf 8 (tableOf 8 Q) 0 7 3 560 15 3)
     ≡ record { numbers = shortOfQ; log = zerosAfter 560 logOfQ; pathList = zerosAfter 15 (4 ∷ 0 ∷ 1 ∷ 6 ∷ 7 ∷ 4 ∷ 0 ∷ 4 ∷ 3 ∷ 7 ∷ []); cutList = 1 ∷ 4 ∷ 0 ∷ [] }
-unfolding sum firstOf linked links exists passes insideStep linkStep step A bad badAt badCell firstBad finding verdict mayWalk candidate canTry nextPlace gets nextMarked passOn release carry tries search reversed grant decline goOn innerStep start runOn walked cutItem itemOf runOf pathsFound cutFound pathBytes logBytes outcome logLeft pathsLeft cutLeft
+unfolding sum firstOf linked links exists passes insideStep linkStep step A bad badAt badCell firstBad finding mapVerdict pairVerdict roomVerdict verdict mayWalk candidate canTry nextPlace gets nextMarked passOn release carry tries search reversed grant decline goOn innerStep start runOn walked cutItem itemOf runOf pathsFound cutFound pathBytes logBytes outcome logLeft pathsLeft cutLeft
 case-Q = refl

@@ -15,7 +15,8 @@ use Rattle.radios.specs.Member.{member}
 use Rattle.radios.proofs.Laws.{member-empty, some-member}
 use Rattle.site.specs.Map.{Site, link, inHalf, outHalf, radioOf, isOut, step}
 use Rattle.tokens.specs.Rules.{Plan, Marks, mayWalk, rising, candidate, canTry, nextPlace, nextMarked}
-use Rattle.openings.specs.Rows.{across, Open, Links, OnSteps, placeOf, Untried, Next}
+use Rattle.openings.specs.Rows.{across, Open, OnSteps, placeOf, Untried, Next}
+use Rattle.radios.specs.Links.{RowsOfLinks}
 use Rattle.openings.proofs.Walks.{from-out, walk-below, walk-step, step-out}
 
 -- ---- places
@@ -252,7 +253,7 @@ module _ (site : Site) (marks : Marks) (h v row : ℕ) (below : v < site .n) (is
 -- ---- the marked steps of an out half other than T's
 
 module _ (site : Site) (marks : Marks) (u : ℕ) (nt : u ≡ site .T → ⊥) (rows : List ℕ) (on : OnSteps site marks) (now : Open site marks rows) where
-  pub marked-is : (s : ℕ) (links : List ℕ) → site .S ≡ s → Links site links → (w : ℕ) → (not (eqb w s) && (member w (getD links u 0) && not (member w (getD rows (outHalf u) 0)))) ≡ marks (outHalf u) (inHalf w)
+  pub marked-is : (s : ℕ) (links : List ℕ) → site .S ≡ s → RowsOfLinks (site .table) (site .n) links → (w : ℕ) → (not (eqb w s) && (member w (getD links u 0) && not (member w (getD rows (outHalf u) 0)))) ≡ marks (outHalf u) (inHalf w)
   marked-is s links source is w = rw (← source, is u w) (go (not (eqb w (site .S))) (link site u w) (step site (outHalf u) (inHalf w)) refl (sym (step-out site u w nt)))
     where
       go : (a b c : Bool) → step site (outHalf u) (inHalf w) ≡ c → (a && b) ≡ c → (a && (b && not (member w (getD rows (outHalf u) 0)))) ≡ marks (outHalf u) (inHalf w)

@@ -7,7 +7,7 @@ use Prim.Native.Nat.{ℕ, suc, _+_, _<_}
 use lib.Dec.{eqb, leb}
 use lib.ListN.{getD}
 use Rattle.radios.specs.Member.{member}
-use Rattle.site.specs.Map.{Site, link, inHalf, outHalf, radioOf, isOut, step}
+use Rattle.site.specs.Map.{Site, inHalf, outHalf, radioOf, isOut, step}
 use Rattle.tokens.specs.Rules.{Plan, Marks, mayWalk, nextPlace}
 
 -- ---- the rows
@@ -19,10 +19,6 @@ across h v = cond (isOut h) (inHalf v) (outHalf v)
 -- row h holds the radios that half h can walk to now
 abbrev pub Open : Site → Marks → List ℕ → Type 0
 Open site marks rows = (h v : ℕ) → member v (getD rows h 0) ≡ mayWalk site marks h (across h v)
-
--- the rows of links are those of the site
-abbrev pub Links : Site → List ℕ → Type 0
-Links site links = (u v : ℕ) → member v (getD links u 0) ≡ link site u v
 
 -- the marks that the rows tell: a step is marked where its start cannot walk over it
 abbrev pub marksOf : Site → List ℕ → Marks

@@ -9,7 +9,8 @@ ghost use Rattle.radios.specs.Member.{member};
 ghost use Rattle.site.specs.Limits.{mostRadios};
 ghost use Rattle.site.specs.Map.{Site, inHalf, outHalf, radioOf, step, passes};
 ghost use Rattle.tokens.specs.Rules.{Plan, Marks, mayWalk, rising, unmarked, reversed, nextMarked};
-ghost use Rattle.openings.specs.Rows.{across, Open, Links, Joined, OnSteps, Untried, Next, placeOf};
+ghost use Rattle.openings.specs.Rows.{across, Open, Joined, OnSteps, Untried, Next, placeOf};
+ghost use Rattle.radios.specs.Links.{RowsOfLinks};
 
 // ---- the start: nothing is marked
 
@@ -30,7 +31,7 @@ fn inside(s: usize, t: usize, u: usize) -> u64
 // What radio u's out half can walk to: the in halves of the radios linked to it, but not S's. T has no out half.
 fn outward(s: usize, t: usize, row: u64, u: usize) -> u64
     requires { ⌜ s < mostRadios ⌝ }
-    ensures { λ r. ⌜ ((site : Site) (links : List ℕ) (v : ℕ) → site .S ≡ s → site .T ≡ t → Links site links → row ≡ getD links u 0 → member v r ≡ step site (outHalf u) (inHalf v)) ⌝ }
+    ensures { λ r. ⌜ ((site : Site) (links : List ℕ) (v : ℕ) → site .S ≡ s → site .T ≡ t → RowsOfLinks (site .table) (site .n) links → row ≡ getD links u 0 → member v r ≡ step site (outHalf u) (inHalf v)) ⌝ }
 {
     if u == t {
         return 0;
@@ -41,7 +42,7 @@ fn outward(s: usize, t: usize, row: u64, u: usize) -> u64
 // The rows at the start, where they were empty.
 pub fn fill(n: usize, s: usize, t: usize, links: &[u64; 64], rows: &mut [u64; 128])
     requires { ⌜ (s < mostRadios) × (n ≤ mostRadios) × (now rows ≡ replicate 128 0) ⌝ }
-    ensures { λ r. ⌜ ((site : Site) → site .n ≡ n → site .S ≡ s → site .T ≡ t → Links site (now (links .entry)) → Open site unmarked (now (rows .exit))) ⌝ }
+    ensures { λ r. ⌜ ((site : Site) → site .n ≡ n → site .S ≡ s → site .T ≡ t → RowsOfLinks (site .table) (site .n) (now (links .entry)) → Open site unmarked (now (rows .exit))) ⌝ }
 {
     let all = &mut rows[..];
     for u in 0..n {
@@ -115,7 +116,7 @@ pub fn after(row: u64, h: usize, v: usize) -> u64
 // The radios with a marked step from radio u's out half, where u is not T.
 fn marked_from(s: usize, links: &[u64; 64], rows: &[u64; 128], u: usize) -> u64
     requires { ⌜ (s < mostRadios) × (u < mostRadios) ⌝ }
-    ensures { λ r. ⌜ ((site : Site) (marks : Marks) (w : ℕ) → site .S ≡ s → (u ≡ site .T → ⊥) → Links site (now (links .entry)) → OnSteps site marks → Open site marks (now (rows .entry)) → member w r ≡ marks (outHalf u) (inHalf w)) ⌝ }
+    ensures { λ r. ⌜ ((site : Site) (marks : Marks) (w : ℕ) → site .S ≡ s → (u ≡ site .T → ⊥) → RowsOfLinks (site .table) (site .n) (now (links .entry)) → OnSteps site marks → Open site marks (now (rows .entry)) → member w r ≡ marks (outHalf u) (inHalf w)) ⌝ }
 {
     radios::without(radios::and_not(links[u], rows[2 * u + 1]), s)
 }
@@ -130,7 +131,7 @@ pub fn next_marked(
     v: usize,
 ) -> usize
     requires { ⌜ (n ≤ mostRadios) × (s < mostRadios) × (u < mostRadios) × (v ≤ n) ⌝ }
-    ensures { λ r. ⌜ ((site : Site) (marks : Marks) → site .n ≡ n → site .S ≡ s → (u ≡ site .T → ⊥) → Links site (now (links .entry)) → OnSteps site marks → Open site marks (now (rows .entry)) → nextMarked site marks (outHalf u) v ≡ r) ⌝ }
+    ensures { λ r. ⌜ ((site : Site) (marks : Marks) → site .n ≡ n → site .S ≡ s → (u ≡ site .T → ⊥) → RowsOfLinks (site .table) (site .n) (now (links .entry)) → OnSteps site marks → Open site marks (now (rows .entry)) → nextMarked site marks (outHalf u) v ≡ r) ⌝ }
 {
     let w = radios::first_from(marked_from(s, links, rows, u), v);
     if w < n {

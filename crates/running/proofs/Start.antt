@@ -10,7 +10,8 @@ use borrow.Author.Tests.{lt-ltb}
 use Rattle.site.specs.Map.{Site, outHalf, step}
 use Rattle.tokens.specs.Rules.{Plan, Marks, Entered, Notes, State, searching, waits, nobody, unmarked, start}
 use Rattle.tokens.specs.Run.{runFrom}
-use Rattle.openings.specs.Rows.{Links, Open}
+use Rattle.openings.specs.Rows.{Open}
+use Rattle.radios.specs.Links.{RowsOfLinks}
 use Rattle.openings.proofs.Turns.{marks-told}
 use Rattle.openings.proofs.Order.{untried-whole}
 use Rattle.machine.specs.declared.Task.{Task}
@@ -25,7 +26,7 @@ use Rattle.running.proofs.Sane.{sane-start}
 
 -- the rows are filled, and S's out half alone is entered
 module _ (task : Task) (links rows entered halves : List ℕ)
-    (filled : (site : Site) → site .n ≡ task .n → site .S ≡ task .s → site .T ≡ task .t → Links site links → Open site unmarked rows) (only-S : enteredOf entered ≡ (λ x. eqb x (2 * task .s + 1))) where
+    (filled : (site : Site) → site .n ≡ task .n → site .S ≡ task .s → site .T ≡ task .t → RowsOfLinks (site .table) (site .n) links → Open site unmarked rows) (only-S : enteredOf entered ≡ (λ x. eqb x (2 * task .s + 1))) where
   abbrev Begin : Machine
   Begin = record { stage = Searching; half = 2 * task .s + 1; other = 2 * task .s + 1; left = getD rows (2 * task .s + 1) 0; depth = 0; round = 1; found = 0 }
 

@@ -4,14 +4,14 @@ use Prim.Native.Nat.{ℕ, _+_, _*_, _-_, _≤_}
 use native.Mathlib.Omega.{arith}
 use lib.ListN.{set, length, length-set}
 use Rattle.site.specs.Map.{Site}
-use Rattle.openings.specs.Rows.{Links}
+use Rattle.radios.specs.Links.{RowsOfLinks}
 use Rattle.openings.proofs.Start.{in-starts, out-starts, Filled, none-filled, one-more, all-filled}
 use Rattle.openings.proofs.fill.Statement.{statement}
 use Rattle.openings.proofs.fill.Tie as tie
 
 abbrev Inv-loop : tie.InvT-loop
 Inv-loop n s t links all₀ u₀ all u =
-    (u ≤ n) × (length all ≡ 128) × ((site : Site) → site .n ≡ n → site .S ≡ s → site .T ≡ t → Links site links → Filled site all (2 * u))
+    (u ≤ n) × (length all ≡ 128) × ((site : Site) → site .n ≡ n → site .S ≡ s → site .T ≡ t → RowsOfLinks (site .table) (site .n) links → Filled site all (2 * u))
 
 abbrev μ-loop : tie.MeasureT-loop
 μ-loop n s t links all₀ u₀ all u = n - u
