@@ -17,8 +17,8 @@ use Rattle.captures.proofs.head_of.Statement.{statement}
 use Rattle.captures.proofs.head_of.Tie as tie
 
 -- what the line is, if the fields left, from a place on, are so many numbers
-abbrev Left : List ℕ → ℕ → (List ℕ → Head) → ℕ → Type 0
-Left line n made at = headOf line ≡ reading n made NoNet (piecesFrom tab line at)
+abbrev Remains : List ℕ → ℕ → (List ℕ → Head) → ℕ → Type 0
+Remains line n made at = headOf line ≡ reading n made NoNet (piecesFrom tab line at)
 
 end-of-requires : tie.Need-end-of-requires
 end-of-requires c κs = omega arith
@@ -44,7 +44,7 @@ returns : tie.Need-returns
 returns c = sym (shape (c .before) ∙ rw (not-true (c .before .is-word .result) (c .if1 .taken)))
 
 -- after the word, and then after each number
-left0 : (c : tie.Else1) → Left (c .before .before .before .before .before .before .args .line .now) 5 netOf (c .before .before .before .before .end-of .result + 1)
+left0 : (c : tie.Else1) → Remains (c .before .before .before .before .before .before .args .line .now) 5 netOf (c .before .before .before .before .end-of .result + 1)
 left0 c = shape (c .before) ∙ rw (not-false (c .before .is-word .result) (c .if1 .left))
 
 add-field-at : tie.Need-add-field-at
@@ -66,7 +66,7 @@ returns-2 c = sym (left0 (c .before .before .before) ∙ reading-none _ _ _ NoNe
 abbrev made1 : tie.After-known-told → List ℕ → Head
 made1 c v = netOf (c .before .capture .given .0 .0 ∷ v)
 
-left1 : (c : tie.After-known-told) → Left (c .before .before .before .before .before .before .before .before .before .before .args .line .now) 4 (made1 c) (c .before .capture .given .0 .1 .0)
+left1 : (c : tie.After-known-told) → Remains (c .before .before .before .before .before .before .before .before .before .before .args .line .now) 4 (made1 c) (c .before .capture .given .0 .1 .0)
 left1 c = left0 (c .before .before .before .before) ∙ reading-more _ _ _ NoNet 4 _ _ (sym (c .before .before .before .field-at .ensures) ∙ c .before .capture .given .1)
 
 field-at-requires-2 : tie.Need-field-at-requires-2
@@ -84,7 +84,7 @@ returns-3 c = sym (left1 (c .before .before .before) ∙ reading-none _ _ _ NoNe
 abbrev made2 : tie.After-known-told2 → List ℕ → Head
 made2 c v = made1 (c .before .before .before .before) (c .before .n .given .0 .0 ∷ v)
 
-left2 : (c : tie.After-known-told2) → Left (c .before .before .before .before .before .before .before .before .before .before .before .before .before .before .args .line .now) 3 (made2 c) (c .before .n .given .0 .1 .0)
+left2 : (c : tie.After-known-told2) → Remains (c .before .before .before .before .before .before .before .before .before .before .before .before .before .before .args .line .now) 3 (made2 c) (c .before .n .given .0 .1 .0)
 left2 c = left1 (c .before .before .before .before) ∙ reading-more _ _ _ NoNet 3 _ _ (sym (c .before .before .before .field-at2 .ensures) ∙ c .before .n .given .1)
 
 field-at-requires-3 : tie.Need-field-at-requires-3
@@ -102,7 +102,7 @@ returns-4 c = sym (left2 (c .before .before .before) ∙ reading-none _ _ _ NoNe
 abbrev made3 : tie.After-known-told3 → List ℕ → Head
 made3 c v = made2 (c .before .before .before .before) (c .before .s .given .0 .0 ∷ v)
 
-left3 : (c : tie.After-known-told3) → Left (c .before .before .before .before .before .before .before .before .before .before .before .before .before .before .before .before .before .before .args .line .now) 2 (made3 c) (c .before .s .given .0 .1 .0)
+left3 : (c : tie.After-known-told3) → Remains (c .before .before .before .before .before .before .before .before .before .before .before .before .before .before .before .before .before .before .args .line .now) 2 (made3 c) (c .before .s .given .0 .1 .0)
 left3 c = left2 (c .before .before .before .before) ∙ reading-more _ _ _ NoNet 2 _ _ (sym (c .before .before .before .field-at3 .ensures) ∙ c .before .s .given .1)
 
 field-at-requires-4 : tie.Need-field-at-requires-4
@@ -120,7 +120,7 @@ returns-5 c = sym (left3 (c .before .before .before) ∙ reading-none _ _ _ NoNe
 abbrev made4 : tie.After-known-told4 → List ℕ → Head
 made4 c v = made3 (c .before .before .before .before) (c .before .t .given .0 .0 ∷ v)
 
-left4 : (c : tie.After-known-told4) → Left (c .before .before .before .before .before .before .before .before .before .before .before .before .before .before .before .before .before .before .before .before .before .before .args .line .now) 1 (made4 c) (c .before .t .given .0 .1 .0)
+left4 : (c : tie.After-known-told4) → Remains (c .before .before .before .before .before .before .before .before .before .before .before .before .before .before .before .before .before .before .before .before .before .before .args .line .now) 1 (made4 c) (c .before .t .given .0 .1 .0)
 left4 c = left3 (c .before .before .before .before) ∙ reading-more _ _ _ NoNet 1 _ _ (sym (c .before .before .before .field-at4 .ensures) ∙ c .before .t .given .1)
 
 field-at-requires-5 : tie.Need-field-at-requires-5
@@ -138,7 +138,7 @@ returns-6 c = sym (left4 (c .before .before .before) ∙ reading-none _ _ _ NoNe
 abbrev made5 : tie.After-known-told5 → List ℕ → Head
 made5 c v = made4 (c .before .before .before .before) (c .before .k .given .0 .0 ∷ v)
 
-left5 : (c : tie.After-known-told5) → Left (c .before .before .before .before .before .before .before .before .before .before .before .before .before .before .before .before .before .before .before .before .before .before .before .before .before .before .args .line .now) 0 (made5 c) (c .before .k .given .0 .1 .0)
+left5 : (c : tie.After-known-told5) → Remains (c .before .before .before .before .before .before .before .before .before .before .before .before .before .before .before .before .before .before .before .before .before .before .before .before .before .before .args .line .now) 0 (made5 c) (c .before .k .given .0 .1 .0)
 left5 c = left4 (c .before .before .before .before) ∙ reading-more _ _ _ NoNet 0 _ _ (sym (c .before .before .before .field-at5 .ensures) ∙ c .before .k .given .1)
 
 returns-7 : tie.Need-returns-7

@@ -1,8 +1,8 @@
 -- `texts::is_right` meets its contract. Assumes nothing.
 use mathlib.Core.Path.{sym, ap, _∙_}
 use native.Mathlib.Omega.{arith}
-use Rattle.captures.specs.Capture.{isHead, isLink}
-use Rattle.texts.proofs.Lines.{right-head, right-link}
+use Rattle.captures.specs.Capture.{isHead, isRecord}
+use Rattle.texts.proofs.Lines.{right-head, right-line}
 use Rattle.texts.proofs.is_right.Statement.{statement}
 use Rattle.texts.proofs.is_right.Tie as tie
 
@@ -28,13 +28,13 @@ enum-told-3 : tie.Need-enum-told-3
 enum-told-3 c = omega arith
 
 returns-3 : tie.Need-returns-3
-returns-3 c = sym (right-link _ _ _ (c .before .before .before .if1 .left) (c .before .before .line-of .ensures) ∙ ap isLink (c .enum-told3 .given .1))
+returns-3 c = sym (right-line _ _ _ (c .before .before .before .if1 .left) (c .before .before .line-of .ensures) ∙ ap isRecord (c .enum-told3 .given .1))
 
 enum-told-4 : tie.Need-enum-told-4
 enum-told-4 c = omega arith
 
 returns-4 : tie.Need-returns-4
-returns-4 c = sym (right-link _ _ _ (c .before .before .before .if1 .left) (c .before .before .line-of .ensures) ∙ ap isLink (c .enum-told4 .given .1))
+returns-4 c = sym (right-line _ _ _ (c .before .before .before .if1 .left) (c .before .before .line-of .ensures) ∙ ap isRecord (c .enum-told4 .given .1))
 
 pub is-right-spec : {M : Type 1} → statement M
 is-right-spec =
