@@ -7,7 +7,7 @@ ghost use Rattle.captures.specs.Capture.{headOf, lineOf};
 ghost use Rattle.captures.specs.Reading.{endOf, fieldAt};
 
 // Fields are parted by this byte.
-const TAB: u8 = b'\t';
+pub const TAB: u8 = b'\t';
 
 // Every line is ended by this byte.
 pub const LINE_FEED: u8 = b'\n';

@@ -1,3 +1,3 @@
 pub mod Lines
-pub mod Told
+pub mod Answers
 pub mod Order

@@ -16,7 +16,7 @@ pub record Lent (paths cut : List ℕ) : Type 0 where
   pub paths-long : length paths ≡ pathsLent
   pub cut-long : length cut ≡ cutLent
 
--- a text that is not too long, its lines from a place on, and a first line to which neither 9 nor 1 is against
+-- a text that is not too long, its lines from a place on, and a first line that neither 9 nor 1 is against
 pub record Readable (text : List ℕ) (from : ℕ) (first : FirstLine) : Type 0 where
   pub short : length text ≤ mostBytes
   pub within : from ≤ length text

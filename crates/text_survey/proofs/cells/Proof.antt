@@ -1,7 +1,7 @@
 -- `text_survey::cells` meets its contract. Assumes nothing.
 use mathlib.Core.Path.{refl}
 use native.Mathlib.Omega.{arith}
-use Rattle.text_survey.proofs.Told.{few-cells}
+use Rattle.text_survey.proofs.Answers.{few-cells}
 use Rattle.text_survey.proofs.cells.Statement.{statement}
 use Rattle.text_survey.proofs.cells.Tie as tie
 

@@ -1,6 +1,6 @@
 -- `text_survey::refused` meets its contract. Assumes nothing.
 use borrow.Author.Needs.{needs}
-use Rattle.text_survey.proofs.Told.{told-refused}
+use Rattle.text_survey.proofs.Answers.{told-refused}
 use Rattle.text_survey.proofs.refused.Statement.{statement}
 use Rattle.text_survey.proofs.refused.Tie as tie
 

@@ -6,7 +6,7 @@ use lib.ListN.{length, length-replicate}
 use borrow.Author.Needs.{needs}
 use Rattle.text_survey.specs.Survey.{logLent}
 use Rattle.text_survey.proofs.Lines.{fault-small}
-use Rattle.text_survey.proofs.Told.{told-surveyed}
+use Rattle.text_survey.proofs.Answers.{told-surveyed}
 use Rattle.text_survey.proofs.Order.{told-bad, told-good}
 use Rattle.text_survey.proofs.survey_lines.Statement.{statement}
 use Rattle.text_survey.proofs.survey_lines.Tie as tie

@@ -10,7 +10,7 @@ use Rattle.captures.proofs.Bounds.{head-most}
 use Rattle.texts.specs.Table.{linesFrom}
 use Rattle.texts.proofs.Lines.{Begins, begins}
 use Rattle.text_survey.proofs.Lines.{wrong-small}
-use Rattle.text_survey.proofs.Told.{table-room}
+use Rattle.text_survey.proofs.Answers.{table-room}
 use Rattle.text_survey.proofs.Order.{told-long, told-wrong, told-right, told-few, told-many, told-between}
 use Rattle.text_survey.proofs.survey_text.Statement.{statement}
 use Rattle.text_survey.proofs.survey_text.Tie as tie

@@ -1,4 +1,4 @@
--- What is told of a text that is refused, and of a map that is surveyed. Assumes nothing.
+-- What is answered for a text that is refused, and for a map that is surveyed. Assumes nothing.
 use mathlib.Core.Path.{_≡_, refl, sym, ap, ap₂, _∙_}
 use mathlib.Core.Bool.{Bool, true, false, cond}
 use mathlib.Core.List.{List, [], _∷_, _++_}
