@@ -13,7 +13,7 @@ use Rattle.captures.specs.Text.{same, value, isNumber, mostNumber}
 use Rattle.captures.specs.Capture.{headOf, lineOf}
 use Rattle.captures.specs.Reading.{endOf}
 use Rattle.captures.specs.declared.Head.the-variants.{Net, NoNet}
-use Rattle.captures.specs.declared.Line.the-variants.{Link, NoLink}
+use Rattle.captures.specs.declared.Line.the-variants.{Link, NoRecord}
 use Rattle.captures.proofs.Pieces.{piecesFrom}
 use Rattle.captures.proofs.Shapes.{allNumbers, reading, netOf, linkOf, head-shape, line-shape}
 
@@ -48,7 +48,7 @@ made n make wrong fields z e d = first-of-two (allNumbers n fields) (make (map (
 link-fields : (a b u v : ℕ) → Link a b ≡ Link u v → (a ≡ u) × (b ≡ v)
 link-fields a b u v e = (cc, cc)
 
-not-link : (u v : ℕ) → NoLink ≡ Link u v → ⊥
+not-link : (u v : ℕ) → NoRecord ≡ Link u v → ⊥
 not-link u v q = let z : _≡_ {A = ℕ} 0 1 = cc in omega arith
 
 net-fields : (a b c d e capture n s t k : ℕ) → Net a b c d e ≡ Net capture n s t k → (a ≡ capture) × (b ≡ n) × (c ≡ s) × (d ≡ t) × (e ≡ k)
@@ -68,8 +68,8 @@ module _ (line : List ℕ) where
   unfolding end fields
   link-most u v e =
       let word = same (take end line) link in
-      let told = first-of-two word (reading 2 linkOf NoLink fields) NoLink (Link u v) (sym (line-shape line end refl word refl) ∙ e) (not-link u v) in
-      let got = made 2 linkOf NoLink fields (Link u v) (told .1) (not-link u v) in
+      let told = first-of-two word (reading 2 linkOf NoRecord fields) NoRecord (Link u v) (sym (line-shape line end refl word refl) ∙ e) (not-link u v) in
+      let got = made 2 linkOf NoRecord fields (Link u v) (told .1) (not-link u v) in
       let most = values-most 2 fields (got .0) in
       let is = link-fields _ _ u v (got .1) in
       (omega (arith, most 0, is .0), omega (arith, most 1, is .1))

@@ -15,8 +15,8 @@ use Rattle.captures.specs.Reading.{endOf, part, holding, fieldAt}
 use Rattle.captures.specs.declared.Head.{Head}
 use Rattle.captures.specs.declared.Head.the-variants.{Net, NoNet}
 use Rattle.captures.specs.declared.Line.{Line}
-use Rattle.captures.specs.declared.Line.the-variants.{Link, NoLink}
-use Rattle.captures.specs.declared.Field.the-variants.{Holds, NoField}
+use Rattle.captures.specs.declared.Line.the-variants.{Link, NoRecord}
+use Rattle.captures.specs.declared.Field.the-variants.{Reads, NoField}
 use Rattle.captures.proofs.Pieces.{piecesFrom, pieces-from, pieces-past, next-piece}
 
 -- ---- one field
@@ -57,13 +57,13 @@ module _ {A : Type 0} (line : List ℕ) (at : ℕ) (make : List ℕ → A) (wron
   unfolding end field rest
   here p = next-piece tab line at end p refl
 
-  told : (b : Bool) → at ≤ length line → isNumber field ≡ b → fieldAt line at ≡ cond b (Holds (value 0 field) (end + 1)) NoField
+  told : (b : Bool) → at ≤ length line → isNumber field ≡ b → fieldAt line at ≡ cond b (Reads (value 0 field) (end + 1)) NoField
   unfolding end field numberOf
   told true p e = field-told line at end p refl ∙ rw e
   told false p e = field-told line at end p refl ∙ rw e
 
   -- one number more
-  pub reading-more : (n v next : ℕ) → fieldAt line at ≡ Holds v next
+  pub reading-more : (n v next : ℕ) → fieldAt line at ≡ Reads v next
       → reading (suc n) make wrong (piecesFrom tab line at) ≡ reading n (λ values. make (v ∷ values)) wrong (piecesFrom tab line next)
   unfolding rest reading
   reading-more n v next e = go (decLt (length line) at)
@@ -137,9 +137,9 @@ head-from first (a ∷ b ∷ c ∷ d ∷ e ∷ []) = simp (and-assoc, and-true, 
 head-from first (a ∷ b ∷ c ∷ d ∷ e ∷ f ∷ fields) = simp (ne-eqb (length (first ∷ a ∷ b ∷ c ∷ d ∷ e ∷ f ∷ fields)) 6 (λ q. omega arith), and-false, cond-same)
 
 lineFrom : List (List ℕ) → Line
-lineFrom f = cond (eqb (length f) 3 && same (getD f 0 []) link && isNumber (getD f 1 []) && isNumber (getD f 2 [])) (Link (value 0 (getD f 1 [])) (value 0 (getD f 2 []))) NoLink
+lineFrom f = cond (eqb (length f) 3 && same (getD f 0 []) link && isNumber (getD f 1 []) && isNumber (getD f 2 [])) (Link (value 0 (getD f 1 [])) (value 0 (getD f 2 []))) NoRecord
 
-line-from : (first : List ℕ) (fields : List (List ℕ)) → lineFrom (first ∷ fields) ≡ cond (same first link) (reading 2 linkOf NoLink fields) NoLink
+line-from : (first : List ℕ) (fields : List (List ℕ)) → lineFrom (first ∷ fields) ≡ cond (same first link) (reading 2 linkOf NoRecord fields) NoRecord
 unfolding lineFrom reading
 line-from first [] = simp cond-same
 line-from first (a ∷ []) = simp (and-false, cond-same)
@@ -158,6 +158,6 @@ module _ (line : List ℕ) (end : ℕ) (e : end ≡ endOf line 0 tab) where
   unfolding headOf headFrom
   head-shape b said = ap headFrom split ∙ head-from (take end line) (piecesFrom tab line (end + 1)) ∙ rw said refl
 
-  pub line-shape : (b : Bool) → b ≡ same (take end line) link → lineOf line ≡ cond b (reading 2 linkOf NoLink (piecesFrom tab line (end + 1))) NoLink
+  pub line-shape : (b : Bool) → b ≡ same (take end line) link → lineOf line ≡ cond b (reading 2 linkOf NoRecord (piecesFrom tab line (end + 1))) NoRecord
   unfolding lineOf lineFrom
   line-shape b said = ap lineFrom split ∙ line-from (take end line) (piecesFrom tab line (end + 1)) ∙ rw said refl

@@ -1,4 +1,4 @@
--- A capture: its lines, and the refusals of its text: 10, 9, 1 and 11, with their places.
+-- A capture: its lines, and what is wrong with them: 9 and 11, with their places.
 use mathlib.Core.Bool.{Bool, true, false, not, _&&_, _||_, cond}
 use mathlib.Core.List.{List, [], _∷_}
 use Prim.Native.Nat.{ℕ, suc, _+_, _*_}
@@ -9,7 +9,7 @@ use Rattle.captures.specs.Text.{pieces, same, value, isNumber}
 use Rattle.captures.specs.declared.Head.{Head}
 use Rattle.captures.specs.declared.Head.the-variants.{Net, NoNet}
 use Rattle.captures.specs.declared.Line.{Line}
-use Rattle.captures.specs.declared.Line.the-variants.{Link, NoLink}
+use Rattle.captures.specs.declared.Line.the-variants.{Link, NoRecord}
 
 -- ---- lines
 
@@ -25,21 +25,22 @@ headOf line =
 unfoldable pub lineOf : List ℕ → Line
 lineOf line =
     let f = pieces tab line in
-    cond (eqb (length f) 3 && same (getD f 0 []) link && isNumber (getD f 1 []) && isNumber (getD f 2 [])) (Link (value 0 (getD f 1 [])) (value 0 (getD f 2 []))) NoLink
+    cond (eqb (length f) 3 && same (getD f 0 []) link && isNumber (getD f 1 []) && isNumber (getD f 2 [])) (Link (value 0 (getD f 1 [])) (value 0 (getD f 2 []))) NoRecord
 
+-- lines of the right shape
 abbrev pub isHead : Head → Bool
 isHead (Net capture n S T k) = true
 isHead NoNet = false
 
-abbrev pub isLink : Line → Bool
-isLink (Link u v) = true
-isLink NoLink = false
+abbrev pub isRecord : Line → Bool
+isRecord (Link u v) = true
+isRecord NoRecord = false
 
 -- ---- 9: the first line of the wrong shape
 
 -- the first line is line 1
 abbrev pub rightShape : ℕ → List ℕ → Bool
-rightShape number line = cond (eqb number 1) (isHead (headOf line)) (isLink (lineOf line))
+rightShape number line = cond (eqb number 1) (isHead (headOf line)) (isRecord (lineOf line))
 
 -- among pieces of which the first is line `number`; 0 where there is none. Every line is ended by a line feed, so the last piece is
 -- what stands after the last of them: nothing, and not before there was a line
@@ -48,41 +49,46 @@ wrongLine number [] = number
 wrongLine number (last ∷ []) = cond (eqb (length last) 0 && not (eqb number 1)) 0 number
 wrongLine number (line ∷ next ∷ rest) = cond (rightShape number line) (wrongLine (suc number) (next ∷ rest)) number
 
--- ---- the links
+-- ---- the lines after the first
 
-abbrev pub withLink : Line → List (ℕ × ℕ) → List (ℕ × ℕ)
-withLink (Link u v) links = (u, v) ∷ links
-withLink NoLink links = links
+-- what they say, a line each. The last piece stands after the last line feed: it is no line
+unfoldable pub linesOf : List (List ℕ) → List Line
+linesOf [] = []
+linesOf (last ∷ []) = []
+linesOf (line ∷ next ∷ rest) = lineOf line ∷ linesOf (next ∷ rest)
 
--- what the lines after the first say
-unfoldable pub linksOf : List (List ℕ) → List (ℕ × ℕ)
-linksOf [] = []
-linksOf (line ∷ rest) = withLink (lineOf line) (linksOf rest)
+-- the line says this link
+abbrev pub saysLink : ℕ → ℕ → Line → Bool
+saysLink u v (Link a b) = eqb u a && eqb v b
+saysLink u v NoRecord = false
 
 -- the pair came before
-unfoldable pub came : ℕ → ℕ → List (ℕ × ℕ) → Bool
+unfoldable pub came : ℕ → ℕ → List Line → Bool
 came u v [] = false
-came u v (pair ∷ before) = (eqb u (pair .0) && eqb v (pair .1)) || came u v before
+came u v (line ∷ before) = saysLink u v line || came u v before
 
--- 11: the first radio is not below the second, or the second is not below n, or the pair came before
-abbrev pub badLink : ℕ → List (ℕ × ℕ) → ℕ × ℕ → Bool
-badLink n before pair = not (ltb (pair .0) (pair .1)) || not (ltb (pair .1) n) || came (pair .0) (pair .1) before
+-- 11: what is wrong with a line after those before it. A link's first radio is not below the second, or the second is not below n, or the
+-- pair came before
+abbrev pub atFault : ℕ → List Line → Line → Bool
+atFault n before (Link u v) = not (ltb u v) || not (ltb v n) || came u v before
+atFault n before NoRecord = false
 
--- the line number of the first bad link, of links of which the first is on line `number`; 0 where there is none
-unfoldable pub badLine : ℕ → ℕ → List (ℕ × ℕ) → List (ℕ × ℕ) → ℕ
-badLine n number before [] = 0
-badLine n number before (pair ∷ rest) = cond (badLink n before pair) number (badLine n (suc number) (pair ∷ before) rest)
+-- the number of the first line at fault, of lines of which the first is line `number`; 0 where there is none. Every line counts
+unfoldable pub faultLine : ℕ → ℕ → List Line → List Line → ℕ
+faultLine n number before [] = 0
+faultLine n number before (line ∷ rest) = cond (atFault n before line) number (faultLine n (suc number) (line ∷ before) rest)
 
 -- ---- the map
 
--- the table with this link in both its cells
-abbrev pub linkedIn : ℕ → List ℕ → ℕ × ℕ → List ℕ
-linkedIn n table pair = set (set table (pair .0 * n + pair .1) 1) (pair .1 * n + pair .0) 1
+-- the table after a line: a link stands in both its cells
+abbrev pub withLine : ℕ → List ℕ → Line → List ℕ
+withLine n table (Link u v) = set (set table (u * n + v) 1) (v * n + u) 1
+withLine n table NoRecord = table
 
-unfoldable pub tableWith : ℕ → List ℕ → List (ℕ × ℕ) → List ℕ
+unfoldable pub tableWith : ℕ → List ℕ → List Line → List ℕ
 tableWith n table [] = table
-tableWith n table (pair ∷ rest) = tableWith n (linkedIn n table pair) rest
+tableWith n table (line ∷ rest) = tableWith n (withLine n table line) rest
 
--- the table of n radios with these links
-abbrev pub tableOf : ℕ → List (ℕ × ℕ) → List ℕ
-tableOf n links = tableWith n (replicate (n * n) 0) links
+-- the table of n radios that these lines say
+abbrev pub tableOf : ℕ → List Line → List ℕ
+tableOf n lines = tableWith n (replicate (n * n) 0) lines

@@ -10,7 +10,7 @@ use Rattle.captures.specs.Text.{numberOf}
 use Rattle.captures.specs.declared.Number.{Number}
 use Rattle.captures.specs.declared.Number.the-variants.{Is, NoNumber}
 use Rattle.captures.specs.declared.Field.{Field}
-use Rattle.captures.specs.declared.Field.the-variants.{Holds, NoField}
+use Rattle.captures.specs.declared.Field.the-variants.{Reads, NoField}
 
 -- ---- places
 
@@ -25,7 +25,7 @@ part bytes at end = take (end - at) (drop at bytes)
 -- ---- fields
 
 abbrev pub holding : Number → ℕ → Field
-holding (Is value) next = Holds value next
+holding (Is value) next = Reads value next
 holding NoNumber next = NoField
 
 -- the number in the field of a line that starts at a place, and where the next field starts: past the tab that ends it, or

@@ -7,7 +7,7 @@ ghost use Rattle.captures.specs.Capture.{headOf, lineOf};
 ghost use Rattle.captures.specs.Reading.{endOf, fieldAt};
 
 // Fields are parted by this byte.
-const TAB: u8 = b'\t';
+pub const TAB: u8 = b'\t';
 
 // Every line is ended by this byte.
 pub const LINE_FEED: u8 = b'\n';
@@ -27,10 +27,10 @@ pub enum Head {
     NoNet,
 }
 
-// What any other line says: a link between two radios.
+// What any other line says, if it has the right shape: a link between two radios.
 pub enum Line {
     Link(usize, usize),
-    NoLink,
+    NoRecord,
 }
 
 // What a field says as a number.
@@ -41,7 +41,7 @@ pub enum Number {
 
 // What a field of a line holds: its number, and where the next field starts, which is past the line's end if this is the last.
 enum Field {
-    Holds(usize, usize),
+    Reads(usize, usize),
     NoField,
 }
 
@@ -115,7 +115,7 @@ fn field_at(line: &[u8], at: usize) -> Field
     let Number::Is(value) = number_of(&line[at..end]) else {
         return Field::NoField;
     };
-    Field::Holds(value, end + 1)
+    Field::Reads(value, end + 1)
 }
 
 // What a line says as the first of a capture.
@@ -126,19 +126,19 @@ pub fn head_of(line: &[u8]) -> Head
     if !is_word(&line[..end], b"net") {
         return Head::NoNet;
     }
-    let Field::Holds(capture, at_n) = field_at(line, end + 1) else {
+    let Field::Reads(capture, at_n) = field_at(line, end + 1) else {
         return Head::NoNet;
     };
-    let Field::Holds(n, at_s) = field_at(line, at_n) else {
+    let Field::Reads(n, at_s) = field_at(line, at_n) else {
         return Head::NoNet;
     };
-    let Field::Holds(s, at_t) = field_at(line, at_s) else {
+    let Field::Reads(s, at_t) = field_at(line, at_s) else {
         return Head::NoNet;
     };
-    let Field::Holds(t, at_k) = field_at(line, at_t) else {
+    let Field::Reads(t, at_k) = field_at(line, at_t) else {
         return Head::NoNet;
     };
-    let Field::Holds(k, past) = field_at(line, at_k) else {
+    let Field::Reads(k, past) = field_at(line, at_k) else {
         return Head::NoNet;
     };
     if past <= line.len() {
@@ -159,16 +159,16 @@ pub fn line_of(line: &[u8]) -> Line
 {
     let end = end_of(line, 0, TAB);
     if !is_word(&line[..end], b"link") {
-        return Line::NoLink;
+        return Line::NoRecord;
     }
-    let Field::Holds(u, at_v) = field_at(line, end + 1) else {
-        return Line::NoLink;
+    let Field::Reads(u, at_v) = field_at(line, end + 1) else {
+        return Line::NoRecord;
     };
-    let Field::Holds(v, past) = field_at(line, at_v) else {
-        return Line::NoLink;
+    let Field::Reads(v, past) = field_at(line, at_v) else {
+        return Line::NoRecord;
     };
     if past <= line.len() {
-        return Line::NoLink;
+        return Line::NoRecord;
     }
     Line::Link(u, v)
 }

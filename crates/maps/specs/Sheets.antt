@@ -9,8 +9,9 @@ use Rattle.tokens.specs.Rules.{mayWalk, candidate, canTry, nextPlace, gets, nex
 use Rattle.tokens.specs.Run.{runOn, walked, cutItem, itemOf}
 use Rattle.outcome.specs.Leaves.{runOf, pathsFound, cutFound, outcome}
 use Rattle.captures.specs.Text.{pieces, same, allDigits, value, digits}
-use Rattle.captures.specs.Capture.{headOf, lineOf, wrongLine, linksOf, came, badLine, tableWith}
+use Rattle.captures.specs.Capture.{headOf, lineOf, wrongLine, linesOf, came, faultLine, tableWith}
 use Rattle.sheet_lines.specs.Lines.{refusedLine, reportLine, radioFields, pathLines, cutLines}
+use Rattle.text_survey.specs.Survey.{surveyFor, surveyOf}
 use Rattle.sheet_text.specs.Sheet.{sheetOf, sheet}
 
 -- net 7 8 0 7 3, and nine links, a line each
@@ -39,5 +40,5 @@ sheetOfQ =
     ∷ []
 
 pub sheet-of-Q : sheet textOfQ ≡ sheetOfQ
-unfolding sum firstOf linked links exists passes insideStep linkStep step A bad badAt badCell firstBad finding mapVerdict pairVerdict roomVerdict verdict mayWalk candidate canTry nextPlace gets nextMarked passOn release carry tries search reversed grant decline goOn innerStep start runOn walked cutItem itemOf runOf pathsFound cutFound outcome pieces same allDigits value digits headOf lineOf wrongLine linksOf came badLine tableWith refusedLine reportLine radioFields pathLines cutLines sheetOf sheet
+unfolding sum firstOf linked links exists passes insideStep linkStep step A bad badAt badCell firstBad finding mapVerdict pairVerdict roomVerdict verdict mayWalk candidate canTry nextPlace gets nextMarked passOn release carry tries search reversed grant decline goOn innerStep start runOn walked cutItem itemOf runOf pathsFound cutFound outcome pieces same allDigits value digits headOf lineOf wrongLine linesOf came faultLine tableWith surveyFor surveyOf refusedLine reportLine radioFields pathLines cutLines sheetOf sheet
 sheet-of-Q = refl

@@ -9,15 +9,9 @@ ghost use Rattle.captures.specs.Words.{full, short};
 ghost use Rattle.captures.specs.Text.{decimal};
 ghost use Rattle.sheet_lines.specs.Lines.{field, refusedLine, reportLine, radioFields, pathLines, itemWord, cutLines};
 ghost use Rattle.sheet_lines.specs.Written.{Written, Listed};
-
-// Between two fields.
-const TAB: u8 = 9;
-
-// At the end of every line.
-const LINE_FEED: u8 = 10;
-
-// How a cut list names the direct link.
-const DIRECT_LINK: u8 = 255;
+use captures::LINE_FEED;
+use captures::TAB;
+use site::DIRECT_LINK;
 
 // One byte.
 fn put_byte(out: &mut [u8], at: usize, byte: u8) -> usize

@@ -2,14 +2,12 @@
 use libc::STDOUT_FILENO;
 
 // As the program `sheet` reads: one byte more than a text may have.
-const TEXT_BYTES: usize = 8193;
-
-const SHEET_BYTES: usize = 512;
+const TEXT_BYTES: usize = text_survey::MOST_BYTES + 1;
 // What every byte holds before a call: a byte that the call forgets shows.
 const OLD_BYTE: u8 = 0xAA;
 
 fn write_sheet_of(text: &[u8]) {
-    let mut sheet = [OLD_BYTE; SHEET_BYTES];
+    let mut sheet = [OLD_BYTE; sheet_text::SHEET_ROOM];
     let written = sheet_text::write_sheet(text, &mut sheet);
     io::write_all(STDOUT_FILENO, &sheet[..written]);
 }

@@ -12,7 +12,7 @@ use lib.Seq.{length-take-le}
 use borrow.Author.Tests.{eq-eqb, ne-eqb}
 use Rattle.captures.specs.Words.{lineFeed}
 use Rattle.captures.specs.Text.{pieces}
-use Rattle.captures.specs.Capture.{headOf, lineOf, isHead, isLink, rightShape, wrongLine}
+use Rattle.captures.specs.Capture.{headOf, lineOf, isHead, isRecord, rightShape, wrongLine}
 use Rattle.captures.specs.declared.Head.{Head}
 use Rattle.captures.specs.declared.Line.{Line}
 use Rattle.captures.specs.Reading.{endOf, part}
@@ -24,8 +24,8 @@ use Rattle.captures.proofs.Pieces.{piecesFrom, pieces-from, pieces-past, next-p
 pub right-head : (number : ℕ) (line : List ℕ) (said : Head) → number ≡ 1 → said ≡ headOf line → rightShape number line ≡ isHead said
 right-head number line said e h = rw (eq-eqb number 1 e, h)
 
-pub right-link : (number : ℕ) (line : List ℕ) (said : Line) → (number ≡ 1 → ⊥) → said ≡ lineOf line → rightShape number line ≡ isLink said
-right-link number line said d h = rw (ne-eqb number 1 d, h)
+pub right-line : (number : ℕ) (line : List ℕ) (said : Line) → (number ≡ 1 → ⊥) → said ≡ lineOf line → rightShape number line ≡ isRecord said
+right-line number line said d h = rw (ne-eqb number 1 d, h)
 
 -- a line that is ended by a line feed: there is a piece after it
 line-ended : (text : List ℕ) (at end number : ℕ) → at ≤ length text → end ≡ endOf text at lineFeed → end < length text

@@ -1,4 +1,4 @@
--- The table that the links fill: a pair came before exactly if its cell is 1. Assumes nothing.
+-- The table that the lines fill: a pair came before exactly if its cell is 1. Assumes nothing.
 use mathlib.Core.Path.{_≡_, refl, sym, ap, _∙_}
 use mathlib.Core.Bool.{Bool, true, false, _&&_, _||_, cond, and-false, or-true}
 use mathlib.Core.List.{List, [], _∷_, _++_, append-assoc, append-nil}
@@ -13,12 +13,12 @@ use borrow.Author.Tests.{eq-eqb, ne-eqb, lt-ltb, le-ltb, not-true, not-false}
 use Rattle.basics.proofs.Bools.{clash}
 use Rattle.basics.proofs.Places.{row-of, column-of, in-table}
 use Rattle.captures.specs.Words.{lineFeed}
-use Rattle.captures.specs.Capture.{lineOf, withLink, linksOf, came, badLink, badLine, linkedIn, tableWith, tableOf}
+use Rattle.captures.specs.Capture.{lineOf, linesOf, came, atFault, faultLine, withLine, tableWith, tableOf}
 use Rattle.captures.specs.Reading.{endOf, part}
 use Rattle.captures.specs.declared.Line.{Line}
-use Rattle.captures.specs.declared.Line.the-variants.{Link, NoLink}
+use Rattle.captures.specs.declared.Line.the-variants.{Link, NoRecord}
 use Rattle.captures.proofs.Pieces.{piecesFrom, pieces-from, pieces-past, next-piece, end-between}
-use Rattle.texts.specs.Links.{badIn, Added, linksFrom, LinksRead}
+use Rattle.texts.specs.Table.{faultIn, Added, linesFrom, LinesRead}
 
 -- ---- places
 
@@ -30,181 +30,195 @@ same-place n a b u v hb hv e =
 -- ---- the cells
 
 -- the cell of a pair below n is 1 exactly if the pair came before
-abbrev pub Cells : ℕ → List ℕ → List (ℕ × ℕ) → Type 0
+abbrev pub Cells : ℕ → List ℕ → List Line → Type 0
 Cells n table before = (a b : ℕ) → a < b → b < n → came a b before ≡ eqb (getD table (a * n + b) 0) 1
 
 cells-none : (n : ℕ) → Cells n (replicate (n * n) 0) []
 unfolding came
 cells-none n a b p q = rw (getD-replicate {A = ℕ} (n * n) (a * n + b) 0 0 (in-table n a b (omega arith) q))
 
-cells-more : (n : ℕ) (table : List ℕ) (before : List (ℕ × ℕ)) (u v : ℕ) → length table ≡ n * n → u < v → v < n → Cells n table before → Cells n (linkedIn n table (u, v)) ((u, v) ∷ before)
+cells-linked : (n : ℕ) (table : List ℕ) (before : List Line) (u v : ℕ) → length table ≡ n * n → u < v → v < n → Cells n table before → Cells n (withLine n table (Link u v)) (Link u v ∷ before)
 unfolding came
-cells-more n table before u v long less below cells a b p q = pick (ℕ-discrete a u) (ℕ-discrete b v)
+cells-linked n table before u v long less below cells a b p q = pick (ℕ-discrete a u) (ℕ-discrete b v)
   where
-    here : getD (linkedIn n table (u, v)) (u * n + v) 0 ≡ 1
+    here : getD (withLine n table (Link u v)) (u * n + v) 0 ≡ 1
     here =
         getD-set-other (set table (u * n + v) 1) (v * n + u) (u * n + v) 1 0 (λ e. absurd (omega (arith, same-place n u v v u below (omega arith) e .0)))
         ∙ getD-set-same table (u * n + v) 1 0 (omega (arith, in-table n u v (omega arith) below))
 
-    there : (a ≡ u → b ≡ v → ⊥) → getD (linkedIn n table (u, v)) (a * n + b) 0 ≡ getD table (a * n + b) 0
+    there : (a ≡ u → b ≡ v → ⊥) → getD (withLine n table (Link u v)) (a * n + b) 0 ≡ getD table (a * n + b) 0
     there d =
         getD-set-other (set table (u * n + v) 1) (v * n + u) (a * n + b) 1 0 (λ e. let s = same-place n a b v u q (omega arith) e in absurd (omega (arith, s .0, s .1)))
         ∙ getD-set-other table (u * n + v) (a * n + b) 1 0 (λ e. let s = same-place n a b u v q below e in absurd (d (s .0) (s .1)))
 
-    pick : Dec (a ≡ u) → Dec (b ≡ v) → ((eqb a u && eqb b v) || came a b before) ≡ eqb (getD (linkedIn n table (u, v)) (a * n + b) 0) 1
+    pick : Dec (a ≡ u) → Dec (b ≡ v) → ((eqb a u && eqb b v) || came a b before) ≡ eqb (getD (withLine n table (Link u v)) (a * n + b) 0) 1
     pick (yes e) (yes f) = rw (e, f, eq-eqb u u refl, eq-eqb v v refl, here)
     pick (no d) f = rw (ne-eqb a u d, there (λ e g. d e)) (cells a b p q)
     pick (yes e) (no d) = rw (ne-eqb b v d, and-false, there (λ x g. d g)) (cells a b p q)
 
--- so the table tells a bad link
-bad-told : (n : ℕ) (table : List ℕ) (before : List (ℕ × ℕ)) (u v : ℕ) → Cells n table before → badLink n before (u, v) ≡ badIn n table (u, v)
-bad-told n table before u v cells = pick (decLt u v) (decLt v n)
+-- so the table tells a line at fault
+fault-told : (n : ℕ) (table : List ℕ) (before : List Line) (line : Line) → Cells n table before → atFault n before line ≡ faultIn n table line
+fault-told n table before NoRecord cells = refl
+fault-told n table before (Link u v) cells = pick (decLt u v) (decLt v n)
   where
-    pick : Dec (u < v) → Dec (v < n) → badLink n before (u, v) ≡ badIn n table (u, v)
+    pick : Dec (u < v) → Dec (v < n) → atFault n before (Link u v) ≡ faultIn n table (Link u v)
     pick (yes p) (yes q) = rw (cells u v p q)
     pick (no p) q = rw (le-ltb u v (omega arith))
     pick (yes p) (no q) = rw (lt-ltb u v p, le-ltb v n (omega arith))
 
--- ---- one link
+-- ---- one line
 
 module _ (n : ℕ) (table : List ℕ) (u v : ℕ) where
-  pub bad-order : v ≤ u → badIn n table (u, v) ≡ true
-  bad-order p = rw (le-ltb u v p)
+  pub fault-order : v ≤ u → faultIn n table (Link u v) ≡ true
+  fault-order p = rw (le-ltb u v p)
 
-  pub bad-above : n ≤ v → badIn n table (u, v) ≡ true
-  bad-above p = rw (le-ltb v n p, or-true)
+  pub fault-above : n ≤ v → faultIn n table (Link u v) ≡ true
+  fault-above p = rw (le-ltb v n p, or-true)
 
   module _ (place : ℕ) (p : u < v) (q : v < n) (e : place ≡ u * n + v) where
-    pub bad-again : getD table place 0 ≡ 1 → badIn n table (u, v) ≡ true
-    bad-again h = simp (← e, h, or-true)
+    pub fault-again : getD table place 0 ≡ 1 → faultIn n table (Link u v) ≡ true
+    fault-again h = simp (← e, h, or-true)
 
-    pub bad-none : (getD table place 0 ≡ 1 → ⊥) → badIn n table (u, v) ≡ false
-    bad-none h = simp (← e, ne-eqb (getD table place 0) 1 h, lt-ltb u v p, lt-ltb v n q)
+    pub fault-none : (getD table place 0 ≡ 1 → ⊥) → faultIn n table (Link u v) ≡ false
+    fault-none h = simp (← e, ne-eqb (getD table place 0) 1 h, lt-ltb u v p, lt-ltb v n q)
 
 -- the radios of a good link stand in order
-good-order : (n : ℕ) (table : List ℕ) (u v : ℕ) → badIn n table (u, v) ≡ false → (u < v) × (v < n)
+good-order : (n : ℕ) (table : List ℕ) (u v : ℕ) → faultIn n table (Link u v) ≡ false → (u < v) × (v < n)
 good-order n table u v good = pick (decLt u v) (decLt v n)
   where
     pick : Dec (u < v) → Dec (v < n) → (u < v) × (v < n)
     pick (yes p) (yes q) = (p, q)
-    pick (no p) q = clash (bad-order n table u v (omega arith)) good
-    pick (yes p) (no q) = clash (bad-above n table u v (omega arith)) good
+    pick (no p) q = clash (fault-order n table u v (omega arith)) good
+    pick (yes p) (no q) = clash (fault-above n table u v (omega arith)) good
 
-pub added-not : {n : ℕ} {table : List ℕ} {pair : ℕ × ℕ} → badIn n table pair ≡ true → Added n table pair table false
+-- the table of one good line more
+cells-more : (n : ℕ) (table : List ℕ) (before : List Line) (line : Line) → length table ≡ n * n → faultIn n table line ≡ false → Cells n table before → Cells n (withLine n table line) (line ∷ before)
+unfolding came
+cells-more n table before NoRecord long good cells = cells
+cells-more n table before (Link u v) long good cells = let order = good-order n table u v good in cells-linked n table before u v long (order .0) (order .1) cells
+
+with-long : (n : ℕ) (table : List ℕ) (line : Line) → length (withLine n table line) ≡ length table
+with-long n table NoRecord = refl
+with-long n table (Link u v) = length-set (set table (u * n + v) 1) (v * n + u) 1 ∙ length-set table (u * n + v) 1
+
+pub added-not : {n : ℕ} {table : List ℕ} {line : Line} → faultIn n table line ≡ true → Added n table line table false
 added-not bad = record { told = rw bad; joined = refl }
 
-pub added : {n : ℕ} {table : List ℕ} {pair : ℕ × ℕ} {after : List ℕ} → badIn n table pair ≡ false → after ≡ linkedIn n table pair → Added n table pair after true
+pub added : {n : ℕ} {table : List ℕ} {line : Line} {after : List ℕ} → faultIn n table line ≡ false → after ≡ withLine n table line → Added n table line after true
 added good e = record { told = rw good; joined = e }
+
+-- what a line does, by what it says
+pub added-said : {n : ℕ} {table : List ℕ} {line said : Line} {after : List ℕ} {good : Bool} → line ≡ said → Added n table said after good → Added n table line after good
+added-said e a = rw e a
 
 -- ---- line after line
 
--- what is known before the line that begins at `at`: none of the links read was bad, and the table has them. `before` is the
--- same links, the last one first
-pub record Filling (text : List ℕ) (from n : ℕ) (table : List ℕ) (number at : ℕ) : Type 0 where
+-- what is known before the line that begins at `at` and ends at `end`: no line read was at fault, and the table has them. `before` is the
+-- same lines, the last one first
+pub record Filling (text : List ℕ) (from n : ℕ) (table : List ℕ) (number at end : ℕ) : Type 0 where
+  pub within : at ≤ length text
+  pub ends : end ≡ endOf text at lineFeed
   pub few : number ≤ at + 2
   pub long : length table ≡ n * n
-  pub read : List (ℕ × ℕ)
+  pub read : List Line
   pub count : length read + 2 ≡ number
-  pub parted : linksFrom text from ≡ read ++ linksOf (piecesFrom lineFeed text at)
+  pub parted : linesFrom text from ≡ read ++ linesOf (piecesFrom lineFeed text at)
   pub has : table ≡ tableOf n read
-  pub before : List (ℕ × ℕ)
+  pub before : List Line
   pub cells : Cells n table before
-  pub bad : badLine n 2 [] (linksFrom text from) ≡ badLine n number before (linksOf (piecesFrom lineFeed text at))
+  pub fault : faultLine n 2 [] (linesFrom text from) ≡ faultLine n number before (linesOf (piecesFrom lineFeed text at))
 
-pub filling-none : (text : List ℕ) (from n : ℕ) (table : List ℕ) → from ≤ length text → table ≡ replicate (n * n) 0 → Filling text from n table 2 from
+-- a table all of whose cells were cleared
+pub cleared : (table : List ℕ) {after : List ℕ} (cells : ℕ) → after ≡ take 0 table ++ replicate (length table - 0) 0 → length table ≡ cells → after ≡ replicate cells 0
+cleared table cells e long = let all : length table - 0 ≡ cells = omega arith in e ∙ ap (λ (m : ℕ). replicate m 0) all
+
+pub filling-none : {text : List ℕ} {from n : ℕ} {table : List ℕ} {end : ℕ} → from ≤ length text → end ≡ endOf text from lineFeed → table ≡ replicate (n * n) 0 → Filling text from n table 2 from end
 unfolding tableWith
-filling-none text from n table p zeros =
+filling-none {text} {from} {n} p e zeros =
     record {
+      within = p;
+      ends = e;
       few = omega arith;
       long = ap length zeros ∙ length-replicate (n * n) 0;
       read = [];
       count = refl;
-      parted = ap linksOf (sym (pieces-from lineFeed text from p));
+      parted = ap linesOf (sym (pieces-from lineFeed text from p));
       has = zeros;
       before = [];
       cells = rw zeros (cells-none n);
-      bad = ap (λ (lines : List (List ℕ)). badLine n 2 [] (linksOf lines)) (sym (pieces-from lineFeed text from p));
+      fault = ap (λ (lines : List (List ℕ)). faultLine n 2 [] (linesOf lines)) (sym (pieces-from lineFeed text from p));
     }
 
--- the table of one link more
-table-more : (n : ℕ) (table : List ℕ) (links : List (ℕ × ℕ)) (pair : ℕ × ℕ) → tableWith n table (links ++ (pair ∷ [])) ≡ linkedIn n (tableWith n table links) pair
+-- the table of one line more
+table-more : (n : ℕ) (table : List ℕ) (lines : List Line) (line : Line) → tableWith n table (lines ++ (line ∷ [])) ≡ withLine n (tableWith n table lines) line
 unfolding tableWith
-table-more n table [] pair = refl
-table-more n table (first ∷ links) pair = table-more n (linkedIn n table first) links pair
+table-more n table [] line = refl
+table-more n table (first ∷ lines) line = table-more n (withLine n table first) lines line
 
-module _ (text : List ℕ) (from n : ℕ) (table : List ℕ) (number at end : ℕ) (filling : Filling text from n table number at) (p : at ≤ length text) (e : end ≡ endOf text at lineFeed) where
-  links-here : linksOf (piecesFrom lineFeed text at) ≡ withLink (lineOf (part text at end)) (linksOf (piecesFrom lineFeed text (end + 1)))
-  unfolding linksOf
-  links-here = rw (next-piece lineFeed text at end p e)
+module _ {text : List ℕ} {from n : ℕ} {table : List ℕ} {number at end : ℕ} (filling : Filling text from n table number at end) where
+  pub line-between : (at ≤ end) × (end ≤ length text)
+  line-between = end-between lineFeed text at end (filling .within) (filling .ends)
 
-  links-said : (line : Line) → line ≡ lineOf (part text at end) → linksOf (piecesFrom lineFeed text at) ≡ withLink line (linksOf (piecesFrom lineFeed text (end + 1)))
-  links-said line said = links-here ∙ ap (λ (l : Line). withLink l (linksOf (piecesFrom lineFeed text (end + 1)))) (sym said)
+  module _ (ended : end < length text) where
+    lines-here : linesOf (piecesFrom lineFeed text at) ≡ lineOf (part text at end) ∷ linesOf (piecesFrom lineFeed text (end + 1))
+    unfolding linesOf
+    lines-here =
+        rw (
+          next-piece lineFeed text at end (filling .within) (filling .ends),
+          next-piece lineFeed text (end + 1) (endOf text (end + 1) lineFeed) (omega arith) refl,
+        )
 
-  onward : at ≤ end
-  onward = end-between lineFeed text at end p e .0
+    module _ {line : Line} (said : line ≡ lineOf (part text at end)) {after : List ℕ} {good : Bool} (added : Added n table line after good) where
+      lines-said : linesOf (piecesFrom lineFeed text at) ≡ line ∷ linesOf (piecesFrom lineFeed text (end + 1))
+      lines-said = lines-here ∙ ap (λ (l : Line). l ∷ linesOf (piecesFrom lineFeed text (end + 1))) (sym said)
 
-  -- a line that is no link
-  pub filling-skip : NoLink ≡ lineOf (part text at end) → Filling text from n table number (end + 1)
-  filling-skip said =
-      let same = links-said NoLink said in
+      -- a line at fault
+      pub filled-fault : good ≡ false → LinesRead text from n after number
+      unfolding faultLine
+      filled-fault refused =
+          let bad : faultIn n table line ≡ true = not-false (faultIn n table line) (sym (added .told) ∙ refused) in
+          let told : faultLine n 2 [] (linesFrom text from) ≡ number =
+          filling .fault ∙ ap (faultLine n number (filling .before)) lines-said
+          ∙ rw (fault-told n table (filling .before) line (filling .cells), bad)
+          in
+          let kept : after ≡ table = added .joined ∙ ap (λ (b : Bool). cond b (withLine n table line) table) refused in
+          let count : length (filling .read) ≡ number - 2 = omega (arith, filling .count) in
+          record {
+            told = sym told;
+            filled = λ z. absurd (omega (arith, filling .count));
+            stopped = λ d. kept ∙ filling .has ∙ ap (tableOf n) (sym (ap (take (number - 2)) (filling .parted) ∙ take-at (filling .read) _ (number - 2) count));
+          }
+
+      -- a good one
+      pub filling-more : {next : ℕ} → good ≡ true → next ≡ endOf text (end + 1) lineFeed → Filling text from n after (number + 1) (end + 1) next
+      unfolding faultLine
+      filling-more taken e =
+          let fine : faultIn n table line ≡ false = not-true (faultIn n table line) (sym (added .told) ∙ taken) in
+          let has : after ≡ withLine n table line = added .joined ∙ ap (λ (b : Bool). cond b (withLine n table line) table) taken in
+          record {
+            within = omega arith;
+            ends = e;
+            few = omega (arith, filling .few, line-between .0);
+            long = ap length has ∙ with-long n table line ∙ filling .long;
+            read = filling .read ++ (line ∷ []);
+            count = simp length-append (omega (arith, filling .count));
+            parted = filling .parted ∙ ap (λ (lines : List Line). filling .read ++ lines) lines-said ∙ sym (append-assoc (filling .read) (line ∷ []) _);
+            has = has ∙ ap (λ (t : List ℕ). withLine n t line) (filling .has) ∙ sym (table-more n (replicate (n * n) 0) (filling .read) line);
+            before = line ∷ filling .before;
+            cells = rw has (cells-more n table (filling .before) line (filling .long) fine (filling .cells));
+            fault = filling .fault ∙ ap (faultLine n number (filling .before)) lines-said ∙ rw (fault-told n table (filling .before) line (filling .cells), fine, add-one number);
+          }
+
+  -- every line read
+  pub filled : length text ≤ end → LinesRead text from n table 0
+  unfolding faultLine linesOf
+  filled q =
+      let none : linesOf (piecesFrom lineFeed text at) ≡ [] =
+      rw (next-piece lineFeed text at end (filling .within) (filling .ends), pieces-past lineFeed text (end + 1) (omega arith))
+      in
+      let all : linesFrom text from ≡ filling .read = filling .parted ∙ ap (λ (lines : List Line). filling .read ++ lines) none ∙ append-nil (filling .read) in
       record {
-        few = omega (arith, filling .few, onward);
-        long = filling .long;
-        read = filling .read;
-        count = filling .count;
-        parted = filling .parted ∙ ap (λ (links : List (ℕ × ℕ)). filling .read ++ links) same;
-        has = filling .has;
-        before = filling .before;
-        cells = filling .cells;
-        bad = filling .bad ∙ ap (badLine n number (filling .before)) same;
+        told = sym (filling .fault ∙ ap (faultLine n number (filling .before)) none);
+        filled = λ z. filling .has ∙ ap (tableOf n) (sym all);
+        stopped = λ d. absurd (d refl);
       }
-
-  module _ (u v : ℕ) (said : Link u v ≡ lineOf (part text at end)) (after : List ℕ) (good : Bool) (added : Added n table (u, v) after good) where
-    -- a bad link
-    pub filled-bad : good ≡ false → LinksRead text from n after number
-    unfolding badLine
-    filled-bad refused =
-        let bad : badIn n table (u, v) ≡ true = not-false (badIn n table (u, v)) (sym (added .told) ∙ refused) in
-        let told : badLine n 2 [] (linksFrom text from) ≡ number =
-        filling .bad ∙ ap (badLine n number (filling .before)) (links-said (Link u v) said)
-        ∙ rw (bad-told n table (filling .before) u v (filling .cells), bad)
-        in
-        let kept : after ≡ table = added .joined ∙ ap (λ (b : Bool). cond b (linkedIn n table (u, v)) table) refused in
-        let count : length (filling .read) ≡ number - 2 = omega (arith, filling .count) in
-        record {
-          told = sym told;
-          filled = λ z. absurd (omega (arith, filling .count));
-          stopped = λ d. kept ∙ filling .has ∙ ap (tableOf n) (sym (ap (take (number - 2)) (filling .parted) ∙ take-at (filling .read) _ (number - 2) count));
-        }
-
-    -- a good one
-    pub filling-more : good ≡ true → Filling text from n after (number + 1) (end + 1)
-    unfolding badLine
-    filling-more taken =
-        let same = links-said (Link u v) said in
-        let fine : badIn n table (u, v) ≡ false = not-true (badIn n table (u, v)) (sym (added .told) ∙ taken) in
-        let has : after ≡ linkedIn n table (u, v) = added .joined ∙ ap (λ (b : Bool). cond b (linkedIn n table (u, v)) table) taken in
-        let order = good-order n table u v fine in
-        record {
-          few = omega (arith, filling .few, onward);
-          long = ap length has ∙ length-set (set table (u * n + v) 1) (v * n + u) 1 ∙ length-set table (u * n + v) 1 ∙ filling .long;
-          read = filling .read ++ ((u, v) ∷ []);
-          count = simp length-append (omega (arith, filling .count));
-          parted = filling .parted ∙ ap (λ (links : List (ℕ × ℕ)). filling .read ++ links) same ∙ sym (append-assoc (filling .read) ((u, v) ∷ []) _);
-          has = has ∙ ap (λ (t : List ℕ). linkedIn n t (u, v)) (filling .has) ∙ sym (table-more n (replicate (n * n) 0) (filling .read) (u, v));
-          before = (u, v) ∷ filling .before;
-          cells = rw has (cells-more n table (filling .before) u v (filling .long) (order .0) (order .1) (filling .cells));
-          bad = filling .bad ∙ ap (badLine n number (filling .before)) same ∙ rw (bad-told n table (filling .before) u v (filling .cells), fine, add-one number);
-        }
-
--- every line read
-pub filled : (text : List ℕ) (from n : ℕ) (table : List ℕ) (number at : ℕ) → Filling text from n table number at → length text < at → LinksRead text from n table 0
-unfolding badLine linksOf
-filled text from n table number at filling p =
-    let none = ap linksOf (pieces-past lineFeed text at p) in
-    let all : linksFrom text from ≡ filling .read = filling .parted ∙ ap (λ (links : List (ℕ × ℕ)). filling .read ++ links) none ∙ append-nil (filling .read) in
-    record {
-      told = sym (filling .bad ∙ ap (badLine n number (filling .before)) none);
-      filled = λ z. filling .has ∙ ap (tableOf n) (sym all);
-      stopped = λ d. absurd (d refl);
-    }

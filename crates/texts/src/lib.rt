@@ -1,12 +1,12 @@
-// The two passes over the text of a capture: the shape of its lines, then its links and their table.
+// The two passes over the text of a capture: the shape of its lines, then what they say and its table.
 ghost use mathlib.Core.Path.{_≡_};
 ghost use Prim.Native.Nat.{_+_, _*_, _≤_, _<_};
-ghost use lib.ListN.{length, replicate};
+ghost use lib.ListN.{length};
 ghost use Rattle.site.specs.Limits.{mostRadios};
 ghost use Rattle.captures.specs.Words.{lineFeed};
 ghost use Rattle.captures.specs.Text.{pieces};
 ghost use Rattle.captures.specs.Capture.{rightShape, wrongLine};
-ghost use Rattle.texts.specs.Links.{Added, LinksRead};
+ghost use Rattle.texts.specs.Table.{Added, LinesRead};
 use captures::Head;
 use captures::Line;
 
@@ -20,7 +20,7 @@ fn is_right(number: usize, line: &[u8]) -> bool
         }
         return true;
     }
-    if let Line::NoLink = captures::line_of(line) {
+    if let Line::NoRecord = captures::line_of(line) {
         return false;
     }
     true
@@ -47,23 +47,15 @@ pub fn first_wrong(text: &[u8]) -> usize
     number
 }
 
-// Every cell 0, whatever it held.
-fn clear(table: &mut [u8])
-    ensures { λ r. ⌜ now (table .exit) ≡ replicate (length (now (table .entry))) 0 ⌝ }
-{
-    let mut i = 0;
-    while i < table.len() {
-        table[i] = 0;
-        i += 1;
-    }
-}
-
-// A link joins the table, in both its cells, and is told to be good; a bad one leaves the table as it was. A link between
-// two radios came before exactly if its cell is 1.
-fn add_link(n: usize, u: usize, v: usize, table: &mut [u8]) -> bool
+// A line joins the table and is told to be good; one at fault leaves the table as it was. A link between two radios came
+// before exactly if its cell is 1.
+fn add_line(n: usize, line: Line, table: &mut [u8]) -> bool
     requires { ⌜ (n ≤ mostRadios) × (length (now table) ≡ n * n) ⌝ }
-    ensures { λ r. ⌜ Added n (now (table .entry)) (u, v) (now (table .exit)) r ⌝ }
+    ensures { λ r. ⌜ Added n (now (table .entry)) line (now (table .exit)) r ⌝ }
 {
+    let Line::Link(u, v) = line else {
+        return true;
+    };
     if u >= v || v >= n {
         return false;
     }
@@ -77,27 +69,24 @@ fn add_link(n: usize, u: usize, v: usize, table: &mut [u8]) -> bool
     true
 }
 
-// Refusal 11: the line number of the first bad link; 0 where there is none. The table is left with all links, or with those
-// before the bad one. The lines after the first begin at `from`; one that is no link, of which first_wrong leaves none, is
-// not counted.
+// Refusal 11: the number of the first line at fault; 0 where there is none. The table is left with all lines, or with those
+// before the one at fault. The lines after the first begin at `from`.
 pub fn fill_table(text: &[u8], from: usize, n: usize, table: &mut [u8]) -> usize
     requires { ⌜ (from ≤ length (now text)) × (n ≤ mostRadios) × (length (now table) ≡ n * n) ⌝ }
-    ensures { λ r. ⌜ LinksRead (now (text .entry)) from n (now (table .exit)) r ⌝ }
+    ensures { λ r. ⌜ LinesRead (now (text .entry)) from n (now (table .exit)) r ⌝ }
 {
-    clear(table);
+    buffers::clear_from(table, 0);
     let mut number = 2;
     let mut at = from;
-    while at <= text.len() {
-        let end = captures::end_of(text, at, captures::LINE_FEED);
+    let mut end = captures::end_of(text, at, captures::LINE_FEED);
+    while end < text.len() {
         let line = captures::line_of(&text[at..end]);
-        at = end + 1;
-        let Line::Link(u, v) = line else {
-            continue;
-        };
-        if !add_link(n, u, v, table) {
+        if !add_line(n, line, table) {
             return number;
         }
         number += 1;
+        at = end + 1;
+        end = captures::end_of(text, at, captures::LINE_FEED);
     }
     0
 }

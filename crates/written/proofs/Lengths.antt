@@ -16,7 +16,7 @@ use Rattle.site.specs.Limits.{mostRadios, mostLinks}
 use Rattle.site.specs.Map.{linked, links}
 use Rattle.captures.specs.Text.{mostNumber}
 use Rattle.sheet_lines.proofs.Numbers.{digits-below-100, digits-below-100000}
-use Rattle.sheet_text.specs.Sheet.{mostBytes}
+use Rattle.text_survey.specs.Survey.{mostBytes}
 use Rattle.written.specs.Writing.{netLine, linkLines, captureText, isLinkAt, linksFrom, linksIn}
 use Rattle.written.specs.Reading.{SoundMap}
 use Rattle.basics.proofs.Places.{row-of, column-of}

@@ -23,35 +23,39 @@ use Rattle.site.proofs.Formula.{Even, steps-and-degrees}
 use Rattle.refusals.proofs.Exactly.{refused-exactly}
 use Rattle.refusals.proofs.Accepted.{even-links}
 use Rattle.outcome.specs.Leaves.{outcome}
-use Rattle.captures.specs.Capture.{came, badLink, badLine, tableOf}
-use Rattle.sheet_text.specs.Sheet.{logLent, pathsLent, cutLent}
+use Rattle.captures.specs.Capture.{came, atFault, faultLine, tableOf}
+use Rattle.captures.specs.declared.Line.{Line}
+use Rattle.captures.specs.declared.Line.the-variants.{Link, NoRecord}
+use Rattle.text_survey.specs.Survey.{logLent, pathsLent, cutLent}
 use Rattle.basics.proofs.Places.{row-of, column-of, in-table, row-below, column-below}
 use Rattle.written.proofs.Tables.{isCell, inCells, table-of-long, table-of-cell}
 
 -- ---- 3: the table of good links has no bad cell
 
--- the radios of a link that is not bad
-abbrev Ordered : ℕ → ℕ × ℕ → Type 0
-Ordered n pair = (pair .0 < pair .1) × (pair .1 < n)
+-- the radios of a line that is not at fault
+abbrev Ordered : ℕ → Line → Type 0
+Ordered n (Link u v) = (u < v) × (v < n)
+Ordered n NoRecord = Unit {0}
 
-good-ordered : (n : ℕ) (before : List (ℕ × ℕ)) (pair : ℕ × ℕ) → badLink n before pair ≡ false → Ordered n pair
-good-ordered n before pair good = go (ltb (pair .0) (pair .1)) (ltb (pair .1) n) refl refl good
+good-ordered : (n : ℕ) (before : List Line) (line : Line) → atFault n before line ≡ false → Ordered n line
+good-ordered n before NoRecord good = tt
+good-ordered n before (Link u v) good = go (ltb u v) (ltb v n) refl refl good
   where
-    go : (a b : Bool) → ltb (pair .0) (pair .1) ≡ a → ltb (pair .1) n ≡ b → (not a || not b || came (pair .0) (pair .1) before) ≡ false → Ordered n pair
+    go : (a b : Bool) → ltb u v ≡ a → ltb v n ≡ b → (not a || not b || came u v before) ≡ false → (u < v) × (v < n)
     go true true p q g = (ltb-true _ _ p, ltb-true _ _ q)
     go true false p q g = clash refl g
     go false b p q g = clash refl g
 
--- where no line is bad every link is in order
-all-ordered : (n number : ℕ) (before links : List (ℕ × ℕ)) → badLine n (suc number) before links ≡ 0 → All (Ordered n) links
-unfolding badLine
+-- where no line is at fault every link is in order
+all-ordered : (n number : ℕ) (before lines : List Line) → faultLine n (suc number) before lines ≡ 0 → All (Ordered n) lines
+unfolding faultLine
 all-ordered n number before [] e = tt
-all-ordered n number before (pair ∷ links) e = go (badLink n before pair) refl e (all-ordered n (suc number) (pair ∷ before) links)
+all-ordered n number before (line ∷ lines) e = go (atFault n before line) refl e (all-ordered n (suc number) (line ∷ before) lines)
   where
-    go : (b : Bool) → badLink n before pair ≡ b → cond b (suc number) (badLine n (suc (suc number)) (pair ∷ before) links) ≡ 0
-        → (badLine n (suc (suc number)) (pair ∷ before) links ≡ 0 → All (Ordered n) links) → Ordered n pair × All (Ordered n) links
+    go : (b : Bool) → atFault n before line ≡ b → cond b (suc number) (faultLine n (suc (suc number)) (line ∷ before) lines) ≡ 0
+        → (faultLine n (suc (suc number)) (line ∷ before) lines ≡ 0 → All (Ordered n) lines) → Ordered n line × All (Ordered n) lines
     go true is z rest = absurd (omega arith)
-    go false is z rest = (good-ordered n before pair is, rest z)
+    go false is z rest = (good-ordered n before line is, rest z)
 
 -- the place on the other side of the diagonal
 abbrev other : ℕ → ℕ → ℕ
@@ -62,43 +66,44 @@ record OfLink (n place : ℕ) (mirror-is : Bool) : Type 0 where
   mirror-too : mirror-is ≡ true
   off-diagonal : place / n ≡ place % n → ⊥
 
-of-link : (n place : ℕ) (pair : ℕ × ℕ) → Ordered n pair → isCell n place pair ≡ true → OfLink n place (isCell n (other n place) pair)
-of-link n place pair ord c = go (or-cases (eqb place second) (eqb place first) c)
+of-link : (n place : ℕ) (line : Line) → Ordered n line → isCell n place line ≡ true → OfLink n place (isCell n (other n place) line)
+of-link n place NoRecord ord c = clash c refl
+of-link n place (Link u v) ord c = go (or-cases (eqb place second) (eqb place first) c)
   where
     first : ℕ
-    first = pair .0 * n + pair .1
+    first = u * n + v
 
     second : ℕ
-    second = pair .1 * n + pair .0
+    second = v * n + u
 
-    at : (u v : ℕ) → v < n → place ≡ u * n + v → (place / n ≡ u) × (place % n ≡ v)
-    at u v p e = (ap (λ (x : ℕ). x / n) e ∙ row-of n u v p, ap (λ (x : ℕ). x % n) e ∙ column-of n u v p)
+    at : (a b : ℕ) → b < n → place ≡ a * n + b → (place / n ≡ a) × (place % n ≡ b)
+    at a b p e = (ap (λ (x : ℕ). x / n) e ∙ row-of n a b p, ap (λ (x : ℕ). x % n) e ∙ column-of n a b p)
 
-    go : (eqb place second ≡ true) ⊎ (eqb place first ≡ true) → OfLink n place (isCell n (other n place) pair)
+    go : (eqb place second ≡ true) ⊎ (eqb place first ≡ true) → OfLink n place (isCell n (other n place) (Link u v))
     go (inl h) =
-        let w = at (pair .1) (pair .0) (omega (arith, ord .0, ord .1)) (eqb-true place second h) in
+        let w = at v u (omega (arith, ord .0, ord .1)) (eqb-true place second h) in
         let mirrored : other n place ≡ first = rw (w .0, w .1) refl in
         record { mirror-too = or-right (eqb (other n place) second) (eqb (other n place) first) (eq-eqb _ _ mirrored); off-diagonal = λ e. omega (arith, w .0, w .1, ord .0) }
     go (inr h) =
-        let w = at (pair .0) (pair .1) (ord .1) (eqb-true place first h) in
+        let w = at u v (ord .1) (eqb-true place first h) in
         let mirrored : other n place ≡ second = rw (w .0, w .1) refl in
         record { mirror-too = or-left (eqb (other n place) second) (eqb (other n place) first) (eq-eqb _ _ mirrored); off-diagonal = λ e. omega (arith, w .0, w .1, ord .0) }
 
-of-links : (n place : ℕ) (links : List (ℕ × ℕ)) → All (Ordered n) links → inCells n place links ≡ true → OfLink n place (inCells n (other n place) links)
+of-links : (n place : ℕ) (lines : List Line) → All (Ordered n) lines → inCells n place lines ≡ true → OfLink n place (inCells n (other n place) lines)
 of-links n place [] ord c = clash c refl
-of-links n place (pair ∷ links) ord c = go (or-cases (isCell n place pair) (inCells n place links) c) (of-links n place links (ord .1))
+of-links n place (line ∷ lines) ord c = go (or-cases (isCell n place line) (inCells n place lines) c) (of-links n place lines (ord .1))
   where
-    go : (isCell n place pair ≡ true) ⊎ (inCells n place links ≡ true) → (inCells n place links ≡ true → OfLink n place (inCells n (other n place) links))
-        → OfLink n place (inCells n (other n place) (pair ∷ links))
+    go : (isCell n place line ≡ true) ⊎ (inCells n place lines ≡ true) → (inCells n place lines ≡ true → OfLink n place (inCells n (other n place) lines))
+        → OfLink n place (inCells n (other n place) (line ∷ lines))
     go (inl h) rest =
-        let w = of-link n place pair (ord .0) h in
-        record { mirror-too = or-left (isCell n (other n place) pair) (inCells n (other n place) links) (w .mirror-too); off-diagonal = w .off-diagonal }
+        let w = of-link n place line (ord .0) h in
+        record { mirror-too = or-left (isCell n (other n place) line) (inCells n (other n place) lines) (w .mirror-too); off-diagonal = w .off-diagonal }
     go (inr h) rest =
         let w = rest h in
-        record { mirror-too = or-right (isCell n (other n place) pair) (inCells n (other n place) links) (w .mirror-too); off-diagonal = w .off-diagonal }
+        record { mirror-too = or-right (isCell n (other n place) line) (inCells n (other n place) lines) (w .mirror-too); off-diagonal = w .off-diagonal }
 
-no-fault : (n : ℕ) (links : List (ℕ × ℕ)) → All (Ordered n) links → 0 < n → (place : ℕ) → place < n * n → Fault (tableOf n links) n place → ⊥
-no-fault n links ord some place p = go (inCells n place links) refl
+no-fault : (n : ℕ) (lines : List Line) → All (Ordered n) lines → 0 < n → (place : ℕ) → place < n * n → Fault (tableOf n lines) n place → ⊥
+no-fault n lines ord some place p = go (inCells n place lines) refl
   where
     row : place / n < n
     row = row-below n place some p
@@ -109,18 +114,18 @@ no-fault n links ord some place p = go (inCells n place links) refl
     back : other n (other n place) ≡ place
     back = rw (row-of n (place % n) (place / n) row, column-of n (place % n) (place / n) row) (div-add-mod' place n)
 
-    same : inCells n place links ≡ inCells n (other n place) links
-    same = both-ways _ _ (λ c. of-links n place links ord c .mirror-too) (λ c. ap (λ (x : ℕ). inCells n x links) (sym back) ∙ of-links n (other n place) links ord c .mirror-too)
+    same : inCells n place lines ≡ inCells n (other n place) lines
+    same = both-ways _ _ (λ c. of-links n place lines ord c .mirror-too) (λ c. ap (λ (x : ℕ). inCells n x lines) (sym back) ∙ of-links n (other n place) lines ord c .mirror-too)
 
-    cell : (b : Bool) → inCells n place links ≡ b → getD (tableOf n links) place 0 ≡ cond b 1 0
-    cell b is = table-of-cell n links place p ∙ ap (λ (x : Bool). cond x 1 0) is
+    cell : (b : Bool) → inCells n place lines ≡ b → getD (tableOf n lines) place 0 ≡ cond b 1 0
+    cell b is = table-of-cell n lines place p ∙ ap (λ (x : Bool). cond x 1 0) is
 
-    go : (b : Bool) → inCells n place links ≡ b → Fault (tableOf n links) n place → ⊥
+    go : (b : Bool) → inCells n place lines ≡ b → Fault (tableOf n lines) n place → ⊥
     go true is (no-bit zero one) = one (cell true is)
     go false is (no-bit zero one) = zero (cell false is)
-    go true is (diagonal on nonzero) = of-links n place links ord is .off-diagonal on
+    go true is (diagonal on nonzero) = of-links n place lines ord is .off-diagonal on
     go false is (diagonal on nonzero) = nonzero (cell false is)
-    go b is (mirror differ) = differ (cell b is ∙ sym (table-of-cell n links (other n place) mirror-in ∙ ap (λ (x : Bool). cond x 1 0) (sym same ∙ is)))
+    go b is (mirror differ) = differ (cell b is ∙ sym (table-of-cell n lines (other n place) mirror-in ∙ ap (λ (x : Bool). cond x 1 0) (sym same ∙ is)))
 
 -- ---- 7: the longest log
 
@@ -135,50 +140,50 @@ most-steps site source sink differ even = omega (arith, steps-and-degrees site s
 
 -- ---- the refusals that are left
 
--- the call that `ofLinks` makes, with the lent lengths
-abbrev lentCall : ℕ → ℕ → ℕ → ℕ → List (ℕ × ℕ) → Call
-lentCall n S T k list = callOf n (tableOf n list) S T k logLent pathsLent cutLent
+-- the call that `ofLines` makes, with the lent lengths
+abbrev lentCall : ℕ → ℕ → ℕ → ℕ → List Line → Call
+lentCall n S T k lines = callOf n (tableOf n lines) S T k logLent pathsLent cutLent
 
--- `ofLinks` makes it where refusals 1 and 11 are not against the text
-module _ (n S T k : ℕ) (list : List (ℕ × ℕ)) (two : 2 ≤ n) (most : n ≤ mostRadios) (good : badLine n 2 [] list ≡ 0) where
-  sound : (place : ℕ) → place < n * n → Fault (tableOf n list) n place → ⊥
-  sound = no-fault n list (all-ordered n 1 [] list good) (omega arith)
+-- `ofHead` comes to it where refusals 1 and 11 are not against the text
+module _ (n S T k : ℕ) (lines : List Line) (two : 2 ≤ n) (most : n ≤ mostRadios) (good : faultLine n 2 [] lines ≡ 0) where
+  sound : (place : ℕ) → place < n * n → Fault (tableOf n lines) n place → ⊥
+  sound = no-fault n lines (all-ordered n 1 [] lines good) (omega arith)
 
-  not-1 : number (verdict (lentCall n S T k list)) ≡ 1 → ⊥
-  not-1 e = go (refused-exactly (lentCall n S T k list) 0 .0 e .0)
+  not-1 : number (verdict (lentCall n S T k lines)) ≡ 1 → ⊥
+  not-1 e = go (refused-exactly (lentCall n S T k lines) 0 .0 e .0)
     where
       go : (n < 2) ⊎ (64 < n) → ⊥
       go (inl p) = omega arith
       go (inr p) = omega arith
 
-  not-2 : number (verdict (lentCall n S T k list)) ≡ 2 → ⊥
-  not-2 e = refused-exactly (lentCall n S T k list) 1 .0 e .0 (table-of-long n list)
+  not-2 : number (verdict (lentCall n S T k lines)) ≡ 2 → ⊥
+  not-2 e = refused-exactly (lentCall n S T k lines) 1 .0 e .0 (table-of-long n lines)
 
-  not-3 : number (verdict (lentCall n S T k list)) ≡ 3 → ⊥
-  not-3 e = let w = refused-exactly (lentCall n S T k list) 2 .0 e .0 in sound (w .0) (w .1) (w .2)
+  not-3 : number (verdict (lentCall n S T k lines)) ≡ 3 → ⊥
+  not-3 e = let w = refused-exactly (lentCall n S T k lines) 2 .0 e .0 in sound (w .0) (w .1) (w .2)
 
   -- 17 · 574 messages of four bytes are the 39,032 lent
-  not-7 : number (verdict (lentCall n S T k list)) ≡ 7 → ⊥
+  not-7 : number (verdict (lentCall n S T k lines)) ≡ 7 → ⊥
   not-7 e =
-      let first = refused-exactly (lentCall n S T k list) 6 .0 e in
-      let few : 256 < links (tableOf n list) n → ⊥ = first .1 3 (omega arith) in
+      let first = refused-exactly (lentCall n S T k lines) 6 .0 e in
+      let few : 256 < links (tableOf n lines) n → ⊥ = first .1 3 (omega arith) in
       let source : n ≤ S → ⊥ = λ p. first .1 4 (omega arith) (inl p) in
       let sink : n ≤ T → ⊥ = λ p. first .1 4 (omega arith) (inr (inl p)) in
       let wanted : 8 < k → ⊥ = λ p. first .1 5 (omega arith) (inr p) in
-      let steps = most-steps (lentCall n S T k list .site) (omega arith) (omega arith) (λ d. first .1 4 (omega arith) (inr (inr d))) (even-links (tableOf n list) n sound) in
-      let messages : (2 * k + 1) * A (lentCall n S T k list .site) ≤ 17 * 574 = mul-le-mul {n₂ = 17} {m₂ = 574} (omega arith) (omega (arith, steps)) in
+      let steps = most-steps (lentCall n S T k lines .site) (omega arith) (omega arith) (λ d. first .1 4 (omega arith) (inr (inr d))) (even-links (tableOf n lines) n sound) in
+      let messages : (2 * k + 1) * A (lentCall n S T k lines .site) ≤ 17 * 574 = mul-le-mul {n₂ = 17} {m₂ = 574} (omega arith) (omega (arith, steps)) in
       omega (arith, messages, first .0)
 
-  not-8 : number (verdict (lentCall n S T k list)) ≡ 8 → ⊥
-  not-8 e = let first = refused-exactly (lentCall n S T k list) 7 .0 e in go (λ p. first .1 5 (omega arith) (inr p)) (first .0)
+  not-8 : number (verdict (lentCall n S T k lines)) ≡ 8 → ⊥
+  not-8 e = let first = refused-exactly (lentCall n S T k lines) 7 .0 e in go (λ p. first .1 5 (omega arith) (inr p)) (first .0)
     where
       go : (8 < k → ⊥) → (pathsLent < n - 2 + 3 * k) ⊎ (cutLent < k) → ⊥
       go wanted (inl p) = omega arith
       go wanted (inr p) = wanted p
 
-  pub lends-enough : let r = outcome (callOf n (tableOf n list) S T k logLent pathsLent cutLent) .refusal in (r ≡ 0) ⊎ (r ≡ 4) ⊎ (r ≡ 5) ⊎ (r ≡ 6)
+  pub lends-enough : let r = outcome (callOf n (tableOf n lines) S T k logLent pathsLent cutLent) .refusal in (r ≡ 0) ⊎ (r ≡ 4) ⊎ (r ≡ 5) ⊎ (r ≡ 6)
   unfolding outcome
-  lends-enough = go (verdict (lentCall n S T k list)) not-1 not-2 not-3 not-7 not-8
+  lends-enough = go (verdict (lentCall n S T k lines)) not-1 not-2 not-3 not-7 not-8
     where
       go : (v : Verdict) → (number v ≡ 1 → ⊥) → (number v ≡ 2 → ⊥) → (number v ≡ 3 → ⊥) → (number v ≡ 7 → ⊥) → (number v ≡ 8 → ⊥)
           → (number v ≡ 0) ⊎ (number v ≡ 4) ⊎ (number v ≡ 5) ⊎ (number v ≡ 6)

@@ -1,3 +1,4 @@
+pub mod Example
 pub mod Tables
 pub mod AnyOrder
 pub mod Decimals

@@ -11,12 +11,12 @@ use Rattle.basics.specs.Lists.{All}
 use Rattle.basics.proofs.Bools.{and-left, and-right}
 use Rattle.captures.specs.Words.{tab, lineFeed, net, link}
 use Rattle.captures.specs.Text.{pieces, same, isDigit, allDigits, mostNumber, decimal}
-use Rattle.captures.specs.Capture.{headOf, lineOf, rightShape, wrongLine, linksOf}
+use Rattle.captures.specs.Capture.{headOf, lineOf, rightShape, wrongLine, linesOf}
 use Rattle.captures.specs.declared.Head.the-variants.{Net}
 use Rattle.captures.specs.declared.Line.the-variants.{Link}
 use Rattle.sheet_lines.specs.Lines.{field}
-use Rattle.written.specs.Writing.{netFields, linkFields, linkLines, captureText}
-use Rattle.written.specs.Reading.{Small, ReadBack}
+use Rattle.written.specs.Writing.{netFields, linkFields, linkLines, saying, captureText}
+use Rattle.written.specs.Reading.{Sayable, ReadBack}
 use Rattle.written.proofs.Decimals.{decimal-digits, decimal-value, decimal-number}
 
 -- ---- pieces without a separator
@@ -110,7 +110,7 @@ module _ (pair : ℕ × ℕ) where
   link-fields-free : Free lineFeed (linkFields pair)
   link-fields-free = free-append (link-free lineFeed (omega arith)) (free-append (field-free (pair .0)) (field-free (pair .1)))
 
-  link-back : Small pair → lineOf (linkFields pair) ≡ Link (pair .0) (pair .1)
+  link-back : Sayable pair → lineOf (linkFields pair) ≡ Link (pair .0) (pair .1)
   unfolding lineOf same
   link-back small = rw (link-parts, decimal-number (pair .0) (small .0), decimal-number (pair .1) (small .1), decimal-value (pair .0), decimal-value (pair .1))
 
@@ -132,27 +132,33 @@ unfolding wrongLine linkPieces
 right-then number line [] right = rw right
 right-then number line (pair ∷ links) right = rw right
 
-lines-right : (number : ℕ) (links : List (ℕ × ℕ)) → 1 < number → All Small links → wrongLine number (linkPieces links) ≡ 0
+lines-right : (number : ℕ) (links : List (ℕ × ℕ)) → 1 < number → All Sayable links → wrongLine number (linkPieces links) ≡ 0
 unfolding wrongLine linkPieces
 lines-right number [] p small = rw (ne-eqb number 1 (λ e. omega arith))
 lines-right number (pair ∷ links) p small =
     right-then number (linkFields pair) links (rw (ne-eqb number 1 (λ e. omega arith), link-back pair (small .0)))
     ∙ lines-right (suc number) links (omega arith) (small .1)
 
-lines-back : (links : List (ℕ × ℕ)) → All Small links → linksOf (linkPieces links) ≡ links
-unfolding linksOf linkPieces lineOf pieces
+-- a line each
+said-then : (line : List ℕ) (links : List (ℕ × ℕ)) → linesOf (line ∷ linkPieces links) ≡ lineOf line ∷ linesOf (linkPieces links)
+unfolding linesOf linkPieces
+said-then line [] = refl
+said-then line (pair ∷ links) = refl
+
+lines-back : (links : List (ℕ × ℕ)) → All Sayable links → linesOf (linkPieces links) ≡ saying links
+unfolding linesOf linkPieces
 lines-back [] small = refl
-lines-back (pair ∷ links) small = rw (link-back pair (small .0), lines-back links (small .1))
+lines-back (pair ∷ links) small = said-then (linkFields pair) links ∙ rw (link-back pair (small .0), lines-back links (small .1))
 
 -- ---- the whole text
 
-pub read-back : (capture n S T k : ℕ) (links : List (ℕ × ℕ)) → capture ≤ mostNumber → n ≤ mostNumber → S ≤ mostNumber → T ≤ mostNumber → k ≤ mostNumber → All Small links
+pub read-back : (capture n S T k : ℕ) (links : List (ℕ × ℕ)) → capture ≤ mostNumber → n ≤ mostNumber → S ≤ mostNumber → T ≤ mostNumber → k ≤ mostNumber → All Sayable links
     → ReadBack (captureText capture n S T k links) capture n S T k links
 read-back capture n S T k links a b c d e small =
     record {
       right-shape = ap (wrongLine 1) parted ∙ right-then 1 (netFields capture n S T k) links (rw (head-back capture n S T k a b c d e)) ∙ lines-right 2 links (omega arith) small;
       head = ap (λ (lines : List (List ℕ)). headOf (getD lines 0 [])) parted ∙ head-back capture n S T k a b c d e;
-      others = ap (λ (lines : List (List ℕ)). linksOf (tail lines)) parted ∙ lines-back links small;
+      others = ap (λ (lines : List (List ℕ)). linesOf (tail lines)) parted ∙ lines-back links small;
     }
   where
     parted : pieces lineFeed (captureText capture n S T k links) ≡ netFields capture n S T k ∷ linkPieces links

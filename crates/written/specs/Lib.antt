@@ -1,3 +1,2 @@
 pub mod Writing
-pub mod Example
 pub mod Reading

@@ -8,9 +8,10 @@ use Rattle.refusals.specs.Refusals.{finding}
 use Rattle.refusals.specs.declared.Finding.the-variants.{Sound}
 use Rattle.captures.specs.Words.{lineFeed}
 use Rattle.captures.specs.Text.{pieces, mostNumber}
-use Rattle.captures.specs.Capture.{headOf, wrongLine, linksOf, badLine, tableOf}
+use Rattle.captures.specs.Capture.{headOf, wrongLine, linesOf, faultLine, tableOf}
 use Rattle.captures.specs.declared.Head.the-variants.{Net}
-use Rattle.sheet_text.specs.Sheet.{mostBytes}
+use Rattle.text_survey.specs.Survey.{mostBytes}
+use Rattle.written.specs.Writing.{saying}
 
 -- the lines of a text; what stands after the last line feed is the last of them
 abbrev pub firstLine : List ℕ → List ℕ
@@ -22,14 +23,14 @@ otherLines text = tail (pieces lineFeed text)
 -- ---- reading what was written
 
 -- a text may say these radios
-abbrev pub Small : ℕ × ℕ → Type 0
-Small pair = (pair .0 ≤ mostNumber) × (pair .1 ≤ mostNumber)
+abbrev pub Sayable : ℕ × ℕ → Type 0
+Sayable pair = (pair .0 ≤ mostNumber) × (pair .1 ≤ mostNumber)
 
 -- the text has the right shape, and says these numbers and these links
 pub record ReadBack (text : List ℕ) (capture n S T k : ℕ) (links : List (ℕ × ℕ)) : Type 0 where
   pub right-shape : wrongLine 1 (pieces lineFeed text) ≡ 0
   pub head : headOf (firstLine text) ≡ Net capture n S T k
-  pub others : linksOf (otherLines text) ≡ links
+  pub others : linesOf (otherLines text) ≡ saying links
 
 -- a map that no refusal 1 to 3 is against
 pub record SoundMap (n : ℕ) (table : List ℕ) : Type 0 where
@@ -38,10 +39,10 @@ pub record SoundMap (n : ℕ) (table : List ℕ) : Type 0 where
   pub long : length table ≡ n * n
   pub sound : finding table n ≡ Sound
 
--- no link is bad, and they fill the table
+-- no line of a link is at fault, and they fill the table
 pub record Fills (n : ℕ) (links : List (ℕ × ℕ)) (table : List ℕ) : Type 0 where
-  pub all-good : badLine n 2 [] links ≡ 0
-  pub table-is : tableOf n links ≡ table
+  pub all-good : faultLine n 2 [] (saying links) ≡ 0
+  pub table-is : tableOf n (saying links) ≡ table
 
 -- ---- two texts
 
@@ -49,7 +50,7 @@ pub record Fills (n : ℕ) (links : List (ℕ × ℕ)) (table : List ℕ) : Type
 pub record GoodText (text : List ℕ) : Type 0 where
   pub fits : length text ≤ mostBytes
   pub right-shape : wrongLine 1 (pieces lineFeed text) ≡ 0
-  pub all-good : (capture n S T k : ℕ) → headOf (firstLine text) ≡ Net capture n S T k → badLine n 2 [] (linksOf (otherLines text)) ≡ 0
+  pub all-good : (capture n S T k : ℕ) → headOf (firstLine text) ≡ Net capture n S T k → faultLine n 2 [] (linesOf (otherLines text)) ≡ 0
 
 -- the first lines are the same, and every other line of the one is a line of the other
 pub record SameLines (text text′ : List ℕ) : Type 0 where

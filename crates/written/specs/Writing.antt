@@ -1,11 +1,13 @@
 -- A capture in writing: the text that "The sheet" of document 01 asks for, from its numbers and its links.
 use mathlib.Core.Bool.{Bool, _&&_, cond}
-use mathlib.Core.List.{List, [], _∷_, _++_}
+use mathlib.Core.List.{List, [], _∷_, _++_, map}
 use Prim.Native.Nat.{ℕ, zero, suc, _*_, _/_, _%_}
 use lib.Dec.{eqb, ltb}
 use lib.ListN.{getD}
 use Rattle.captures.specs.Words.{net, link}
 use Rattle.captures.specs.Text.{decimal}
+use Rattle.captures.specs.declared.Line.{Line}
+use Rattle.captures.specs.declared.Line.the-variants.{Link}
 use Rattle.sheet_lines.specs.Lines.{field, ended}
 
 -- ---- lines
@@ -27,6 +29,10 @@ linkLine pair = linkFields pair ++ ended []
 unfoldable pub linkLines : List (ℕ × ℕ) → List ℕ
 linkLines [] = []
 linkLines (pair ∷ links) = linkLine pair ++ linkLines links
+
+-- what these lines say
+abbrev pub saying : List (ℕ × ℕ) → List Line
+saying links = map (λ pair. Link (pair .0) (pair .1)) links
 
 abbrev pub captureText : ℕ → ℕ → ℕ → ℕ → ℕ → List (ℕ × ℕ) → List ℕ
 captureText capture n S T k links = netLine capture n S T k ++ linkLines links

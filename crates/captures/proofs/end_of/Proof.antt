@@ -15,6 +15,9 @@ Inv-loop bytes at separator place₀ place = (place ≤ length bytes) × (endOf 
 abbrev μ-loop : tie.MeasureT-loop
 μ-loop bytes at separator place₀ place = length bytes - place
 
+abbrev past : (P : tie.InvT-loop → tie.MeasureT-loop → Type 0) → P Inv-loop μ-loop → P Inv-loop μ-loop
+past P p = p
+
 loop-holds : tie.Need-loop-holds Inv-loop μ-loop
 loop-holds c = (omega arith, refl)
 
@@ -22,7 +25,7 @@ shared-slice-read-if1 : tie.Need-shared-slice-read-if1 Inv-loop μ-loop
 shared-slice-read-if1 c = omega arith
 
 returns : tie.Need-returns Inv-loop μ-loop
-returns c = sym (c .before .before .before .loop .inv .1 ∙ first-here _ _ _ (c .before .before .loop-test .taken) (eq-eqb _ _ (c .if1 .taken)))
+returns c = sym (past tie.At-loop (search) .loop .inv .1 ∙ first-here _ _ _ (past tie.In-loop (search) .loop-test .taken) (eq-eqb _ _ (c .if1 .taken)))
 
 add-place : tie.Need-add-place Inv-loop μ-loop
 add-place c = omega arith
@@ -31,10 +34,10 @@ loop-less : tie.Need-loop-less Inv-loop μ-loop
 loop-less c = omega arith
 
 loop-again : tie.Need-loop-again Inv-loop μ-loop
-loop-again c = (omega arith, c .before .before .before .loop .inv .1 ∙ first-further _ _ _ (c .before .before .loop-test .taken) (ne-eqb _ _ (c .if1 .left)))
+loop-again c = (omega arith, past tie.At-loop (search) .loop .inv .1 ∙ first-further _ _ _ (past tie.In-loop (search) .loop-test .taken) (ne-eqb _ _ (c .if1 .left)))
 
 returns-2 : tie.Need-returns-2 Inv-loop μ-loop
-returns-2 c = sym (c .before .loop .inv .1 ∙ first-none _ _ _ (omega arith))
+returns-2 c = sym (past tie.At-loop (search) .loop .inv .1 ∙ first-none _ _ _ (omega arith))
 
 pub end-of-spec : {M : Type 1} → statement M
 end-of-spec =

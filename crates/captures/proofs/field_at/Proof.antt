@@ -11,6 +11,9 @@ use Rattle.captures.proofs.Shapes.{field-past, field-told}
 use Rattle.captures.proofs.field_at.Statement.{statement}
 use Rattle.captures.proofs.field_at.Tie as tie
 
+abbrev past : (P : Type 0) → P → P
+past P p = p
+
 returns : tie.Need-returns
 returns c = sym (field-past _ _ (c .if1 .taken))
 
@@ -18,8 +21,8 @@ end-of-requires : tie.Need-end-of-requires
 end-of-requires c κs = omega arith
 
 -- the field's end is between its start and the line's end
-found : (c : tie.After-end-of) → (c .before .before .before .args .at ≤ c .end-of .result) × (c .end-of .result ≤ length (c .before .before .before .args .line .now))
-found c = end-between tab (c .before .before .before .args .line .now) (c .before .before .before .args .at) (c .end-of .result) (c .before .if1 .left) (c .end-of .ensures)
+found : (c : tie.After-end-of) → (past tie.Start (search) .args .at ≤ c .end-of .result) × (c .end-of .result ≤ length (past tie.Start (search) .args .line .now))
+found c = end-between tab (past tie.Start (search) .args .line .now) (past tie.Start (search) .args .at) (c .end-of .result) (past tie.Else1 (search) .if1 .left) (c .end-of .ensures)
 
 sub-number-of : tie.Need-sub-number-of
 sub-number-of c = omega (arith, found c .0)
@@ -41,18 +44,18 @@ enum-told c = omega arith
 
 returns-2 : tie.Need-returns-2
 returns-2 c =
-    let end = c .before .before .before .before .end-of in
-    sym (field-told _ _ (end .result) (c .before .before .before .before .before .if1 .left) (end .ensures)
-    ∙ ap (λ (x : Number). holding x (end .result + 1)) (sym (c .before .before .number-of .ensures) ∙ c .enum-told .given .1))
+    let end = past tie.After-end-of (search) .end-of in
+    sym (field-told _ _ (end .result) (past tie.Else1 (search) .if1 .left) (end .ensures)
+    ∙ ap (λ (x : Number). holding x (end .result + 1)) (sym (past tie.After-number-of (search) .number-of .ensures) ∙ c .enum-told .given .1))
 
 add-t5 : tie.Need-add-t5
-add-t5 c = omega (arith, found (c .before .before .before .before .before) .1)
+add-t5 c = omega (arith, found (past tie.After-end-of (search)) .1)
 
 returns-3 : tie.Need-returns-3
 returns-3 c =
-    let end = c .before .before .before .before .before .end-of in
-    sym (field-told _ _ (end .result) (c .before .before .before .before .before .before .if1 .left) (end .ensures)
-    ∙ ap (λ (x : Number). holding x (end .result + 1)) (sym (c .before .before .before .number-of .ensures) ∙ c .before .value .given .1))
+    let end = past tie.After-end-of (search) .end-of in
+    sym (field-told _ _ (end .result) (past tie.Else1 (search) .if1 .left) (end .ensures)
+    ∙ ap (λ (x : Number). holding x (end .result + 1)) (sym (past tie.After-number-of (search) .number-of .ensures) ∙ past tie.After-value (search) .value .given .1))
 
 pub field-at-spec : {M : Type 1} → statement M
 field-at-spec =

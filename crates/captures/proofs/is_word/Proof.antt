@@ -14,6 +14,9 @@ Inv-loop field word i₀ i = (i ≤ length word) × (same field word ≡ same (d
 abbrev μ-loop : tie.MeasureT-loop
 μ-loop field word i₀ i = length word - i
 
+abbrev past : (P : tie.InvT-loop → tie.MeasureT-loop → Type 0) → P Inv-loop μ-loop → P Inv-loop μ-loop
+past P p = p
+
 returns : tie.Need-returns Inv-loop μ-loop
 returns c = sym (same-long _ _ (c .if1 .taken))
 
@@ -28,7 +31,7 @@ shared-slice-read-if2-2 c = omega arith
 
 returns-2 : tie.Need-returns-2 Inv-loop μ-loop
 returns-2 c =
-    let l = c .before .before .before .before .loop in
+    let l = past tie.At-loop (search) .loop in
     sym (l .inv .1 ∙ differ-here _ _ (l .i) (omega arith) (omega arith) (c .if2 .taken))
 
 add-i : tie.Need-add-i Inv-loop μ-loop
@@ -39,13 +42,13 @@ loop-less c = omega arith
 
 loop-again : tie.Need-loop-again Inv-loop μ-loop
 loop-again c =
-    let l = c .before .before .before .before .loop in
+    let l = past tie.At-loop (search) .loop in
     (omega arith, l .inv .1 ∙ same-here _ _ (l .i) (omega arith) (omega arith) (c .if2 .left))
 
 returns-3 : tie.Need-returns-3 Inv-loop μ-loop
 returns-3 c =
-    let l = c .before .loop in
-    let at = c .before .before .before .args in
+    let l = past tie.At-loop (search) .loop in
+    let at = past tie.Start (search) .args in
     sym (l .inv .1 ∙ ap₂ same (drop-of-length-le (at .field .now) {i = l .i} (omega arith)) (drop-of-length-le (at .word .now) {i = l .i} (omega arith)) ∙ same-nil)
 
 pub is-word-spec : {M : Type 1} → statement M

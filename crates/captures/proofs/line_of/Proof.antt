@@ -10,25 +10,28 @@ use borrow.Author.Tests.{not-true, not-false}
 use Rattle.captures.specs.Words.{tab}
 use Rattle.captures.specs.Capture.{lineOf}
 use Rattle.captures.specs.declared.Line.{Line}
-use Rattle.captures.specs.declared.Line.the-variants.{NoLink}
+use Rattle.captures.specs.declared.Line.the-variants.{NoRecord}
 use Rattle.captures.proofs.Pieces.{piecesFrom, end-between}
 use Rattle.captures.proofs.Shapes.{reading, linkOf, line-shape, reading-more, reading-none, reading-done, reading-past}
 use Rattle.captures.proofs.line_of.Statement.{statement}
 use Rattle.captures.proofs.line_of.Tie as tie
 
+abbrev past : (P : Type 0) → P → P
+past P p = p
+
 -- what the line is, if the fields left, from a place on, are so many numbers
-abbrev Left : List ℕ → ℕ → (List ℕ → Line) → ℕ → Type 0
-Left line n made at = lineOf line ≡ reading n made NoLink (piecesFrom tab line at)
+abbrev Remains : List ℕ → ℕ → (List ℕ → Line) → ℕ → Type 0
+Remains line n made at = lineOf line ≡ reading n made NoRecord (piecesFrom tab line at)
 
 end-of-requires : tie.Need-end-of-requires
 end-of-requires c κs = omega arith
 
 -- the word ends within the line
-within : (c : tie.After-end-of) → c .end-of .result ≤ length (c .before .before .args .line .now)
-within c = end-between tab (c .before .before .args .line .now) 0 (c .end-of .result) (omega arith) (c .end-of .ensures) .1
+within : (c : tie.After-end-of) → c .end-of .result ≤ length (past tie.Start (search) .args .line .now)
+within c = end-between tab (past tie.Start (search) .args .line .now) 0 (c .end-of .result) (omega arith) (c .end-of .ensures) .1
 
 slice-aggregate-is-word : tie.Need-slice-aggregate-is-word
-slice-aggregate-is-word c = sym (length-take-le _ _ (within (c .before)))
+slice-aggregate-is-word c = sym (length-take-le _ _ (within (search)))
 
 slice-aggregate-is-word-2 : tie.Need-slice-aggregate-is-word-2
 slice-aggregate-is-word-2 c = omega arith
@@ -37,18 +40,18 @@ is-word-requires : tie.Need-is-word-requires
 is-word-requires c κs = tt
 
 -- what the line is, by its word
-shape : (c : tie.After-is-word) → lineOf (c .before .before .before .before .before .args .line .now) ≡ cond (c .is-word .result) (reading 2 linkOf NoLink (piecesFrom tab (c .before .before .before .before .before .args .line .now) (c .before .before .before .end-of .result + 1))) NoLink
-shape c = line-shape _ _ (c .before .before .before .end-of .ensures) _ (c .is-word .ensures)
+shape : (c : tie.After-is-word) → lineOf (past tie.Start (search) .args .line .now) ≡ cond (c .is-word .result) (reading 2 linkOf NoRecord (piecesFrom tab (past tie.Start (search) .args .line .now) (past tie.After-end-of (search) .end-of .result + 1))) NoRecord
+shape c = line-shape _ _ (past tie.After-end-of (search) .end-of .ensures) _ (c .is-word .ensures)
 
 returns : tie.Need-returns
-returns c = sym (shape (c .before) ∙ rw (not-true (c .before .is-word .result) (c .if1 .taken)))
+returns c = sym (shape (search) ∙ rw (not-true ((let p : tie.After-is-word = search in p .is-word .result)) (c .if1 .taken)))
 
 -- after the word, and then after each number
-left0 : (c : tie.Else1) → Left (c .before .before .before .before .before .before .args .line .now) 2 linkOf (c .before .before .before .before .end-of .result + 1)
-left0 c = shape (c .before) ∙ rw (not-false (c .before .is-word .result) (c .if1 .left))
+left0 : (c : tie.Else1) → Remains ((let p : tie.Start = search in p .args .line .now)) 2 linkOf ((let p : tie.After-end-of = search in p .end-of .result) + 1)
+left0 c = shape (search) ∙ rw (not-false ((let p : tie.After-is-word = search in p .is-word .result)) (c .if1 .left))
 
 add-field-at : tie.Need-add-field-at
-add-field-at c = omega (arith, within (c .before .before .before .before))
+add-field-at c = omega (arith, within (search))
 
 field-at-requires : tie.Need-field-at-requires
 field-at-requires c κs = tt
@@ -60,14 +63,14 @@ enum-told : tie.Need-enum-told
 enum-told c = omega arith
 
 returns-2 : tie.Need-returns-2
-returns-2 c = sym (left0 (c .before .before .before) ∙ reading-none _ _ _ NoLink 1 (sym (c .before .before .field-at .ensures) ∙ c .enum-told .given .1))
+returns-2 c = sym (left0 (search) ∙ reading-none _ _ _ NoRecord 1 (sym (past tie.After-field-at (search) .field-at .ensures) ∙ c .enum-told .given .1))
 
 -- what the numbers read make, with those to come
 abbrev made1 : tie.After-known-told → List ℕ → Line
-made1 c v = linkOf (c .before .u .given .0 .0 ∷ v)
+made1 c v = linkOf (past tie.After-u (search) .u .given .0 .0 ∷ v)
 
-left1 : (c : tie.After-known-told) → Left (c .before .before .before .before .before .before .before .before .before .before .args .line .now) 1 (made1 c) (c .before .u .given .0 .1 .0)
-left1 c = left0 (c .before .before .before .before) ∙ reading-more _ _ _ NoLink 1 _ _ (sym (c .before .before .before .field-at .ensures) ∙ c .before .u .given .1)
+left1 : (c : tie.After-known-told) → Remains (past tie.Start (search) .args .line .now) 1 (made1 c) (past tie.After-u (search) .u .given .0 .1 .0)
+left1 c = left0 (search) ∙ reading-more _ _ _ NoRecord 1 _ _ (sym (past tie.After-field-at (search) .field-at .ensures) ∙ past tie.After-u (search) .u .given .1)
 
 field-at-requires-2 : tie.Need-field-at-requires-2
 field-at-requires-2 c κs = tt
@@ -79,19 +82,19 @@ enum-told-2 : tie.Need-enum-told-2
 enum-told-2 c = omega arith
 
 returns-3 : tie.Need-returns-3
-returns-3 c = sym (left1 (c .before .before .before) ∙ reading-none _ _ _ NoLink 0 (sym (c .before .before .field-at2 .ensures) ∙ c .enum-told2 .given .1))
+returns-3 c = sym (left1 (search) ∙ reading-none _ _ _ NoRecord 0 (sym (past tie.After-field-at2 (search) .field-at2 .ensures) ∙ c .enum-told2 .given .1))
 
 abbrev made2 : tie.After-known-told2 → List ℕ → Line
-made2 c v = made1 (c .before .before .before .before) (c .before .v .given .0 .0 ∷ v)
+made2 c v = made1 (search) (past tie.After-v (search) .v .given .0 .0 ∷ v)
 
-left2 : (c : tie.After-known-told2) → Left (c .before .before .before .before .before .before .before .before .before .before .before .before .before .before .args .line .now) 0 (made2 c) (c .before .v .given .0 .1 .0)
-left2 c = left1 (c .before .before .before .before) ∙ reading-more _ _ _ NoLink 0 _ _ (sym (c .before .before .before .field-at2 .ensures) ∙ c .before .v .given .1)
+left2 : (c : tie.After-known-told2) → Remains (past tie.Start (search) .args .line .now) 0 (made2 c) (past tie.After-v (search) .v .given .0 .1 .0)
+left2 c = left1 (search) ∙ reading-more _ _ _ NoRecord 0 _ _ (sym (past tie.After-field-at2 (search) .field-at2 .ensures) ∙ past tie.After-v (search) .v .given .1)
 
 returns-4 : tie.Need-returns-4
-returns-4 c = sym (left2 (c .before) ∙ reading-past (c .before .before .before .before .before .before .before .before .before .before .before .before .before .before .before .args .line .now) _ _ NoLink (c .if2 .taken))
+returns-4 c = sym (left2 (search) ∙ reading-past (past tie.Start (search) .args .line .now) _ _ NoRecord (c .if2 .taken))
 
 returns-5 : tie.Need-returns-5
-returns-5 c = sym (left2 (c .before) ∙ reading-done (c .before .before .before .before .before .before .before .before .before .before .before .before .before .before .before .args .line .now) _ _ NoLink (c .if2 .left))
+returns-5 c = sym (left2 (search) ∙ reading-done (past tie.Start (search) .args .line .now) _ _ NoRecord (c .if2 .left))
 
 pub line-of-spec : {M : Type 1} → statement M
 line-of-spec =

@@ -17,6 +17,9 @@ Inv-loop field value₀ i₀ value i = NumberRead field value i
 abbrev μ-loop : tie.MeasureT-loop
 μ-loop field value₀ i₀ value i = length field - i
 
+abbrev past : (P : tie.InvT-loop → tie.MeasureT-loop → Type 0) → P Inv-loop μ-loop → P Inv-loop μ-loop
+past P p = p
+
 returns : tie.Need-returns Inv-loop μ-loop
 returns c = sym (no-bytes _ (c .if1 .taken))
 
@@ -34,22 +37,22 @@ shared-slice-read-digit c = omega arith
 
 returns-3 : tie.Need-returns-3 Inv-loop μ-loop
 returns-3 c =
-    let l = c .before .before .before .loop in
-    let digit = getD (c .before .before .before .before .before .before .args .field .now) (l .i) 0 in
+    let l = past tie.At-loop (search) .loop in
+    let digit = getD (past tie.Start (search) .args .field .now) (l .i) 0 in
     sym (no-digit _ (l .value) (l .i) (l .inv) (omega arith) (⊎-elim (λ w. digit-low digit (w .taken)) (λ w. digit-high digit (ltb-true _ _ (w .1 .taken))) (c .if4 .came)))
 
 mul-value : tie.Need-mul-value Inv-loop μ-loop
 mul-value c = omega arith
 
 cast-value : tie.Need-cast-value Inv-loop μ-loop
-cast-value c = omega (arith, c .before .before .shared-slice-known2 .given (c .before .before .before .before .loop .i))
+cast-value c = omega (arith, past tie.After-shared-slice-known2 (search) .shared-slice-known2 .given (past tie.At-loop (search) .loop .i))
 
 add-value : tie.Need-add-value Inv-loop μ-loop
-add-value c = omega (arith, c .before .before .shared-slice-known2 .given (c .before .before .before .before .loop .i))
+add-value c = omega (arith, past tie.After-shared-slice-known2 (search) .shared-slice-known2 .given (past tie.At-loop (search) .loop .i))
 
 returns-4 : tie.Need-returns-4 Inv-loop μ-loop
 returns-4 c =
-    let l = c .before .before .before .before .before .loop in
+    let l = past tie.At-loop (search) .loop in
     sym (too-large _ (l .value) (l .i) (l .inv) (omega arith) (omega arith))
 
 add-i : tie.Need-add-i Inv-loop μ-loop
@@ -60,15 +63,15 @@ loop-less c = omega arith
 
 loop-again : tie.Need-loop-again Inv-loop μ-loop
 loop-again c =
-    let l = c .before .before .before .before .before .loop in
-    read-more _ (l .value) (l .i) (l .inv) (omega arith) (digit-between _ (c .before .before .if4 .left) (ltb-false _ _ (c .before .if5 .left))) (omega arith)
+    let l = past tie.At-loop (search) .loop in
+    read-more _ (l .value) (l .i) (l .inv) (omega arith) (digit-between _ (past tie.Else4 (search) .if4 .left) (ltb-false _ _ (past tie.Else5 (search) .if5 .left))) (omega arith)
 
 returns-5 : tie.Need-returns-5 Inv-loop μ-loop
 returns-5 c =
-    let l = c .before .loop in
-    let field = c .before .before .before .before .args .field .now in
-    let first : (eqb (length field) 1 || not (eqb (getD field 0 0) 48)) ≡ true = ⊎-elim (λ w. simp (w .2 .left, or-true)) (λ w. simp (eq-eqb (length field) 1 (omega arith))) (c .before .before .if2 .came) in
-    sym (all-read field (l .value) (l .i) (l .inv) (drop-of-length-le field {i = l .i} (omega arith)) (c .before .before .before .if1 .left) first)
+    let l = (let p : tie.At-loop Inv-loop μ-loop = search in p .loop) in
+    let field = (let p : tie.Start Inv-loop μ-loop = search in p .args .field .now) in
+    let first : (eqb (length field) 1 || not (eqb (getD field 0 0) 48)) ≡ true = ⊎-elim (λ w. simp (w .2 .left, or-true)) (λ w. simp (eq-eqb (length field) 1 (omega arith))) ((let p : tie.Joined2 Inv-loop μ-loop = search in p .if2 .came)) in
+    sym (all-read field (l .value) (l .i) (l .inv) (drop-of-length-le field {i = l .i} (omega arith)) ((let p : tie.Else1 Inv-loop μ-loop = search in p .if1 .left)) first)
 
 pub number-of-spec : {M : Type 1} → statement M
 number-of-spec =

@@ -22,6 +22,9 @@ Inv-loop out₀ at items count next₀ i₀ out next i = (i ≤ count) × Partly
 abbrev μ-loop : tie.MeasureT-loop
 μ-loop out₀ at items count next₀ i₀ out next i = count - i
 
+abbrev past : (P : tie.InvT-loop → tie.MeasureT-loop → Type 0) → P Inv-loop μ-loop → P Inv-loop μ-loop
+past P p = p
+
 -- the next item's line, then those of the others
 opened : (items : List ℕ) (count i : ℕ) → count ≤ length items → i < count → linesFrom i items count ≡ cutLines (i + 1) (getD items i 0 ∷ []) ++ linesFrom (i + 1) items count
 opened items count i h l =
@@ -35,7 +38,7 @@ none-left items count i h l = ap (cutLines (i + 1)) (drop-of-length-le (take cou
 
 loop-holds : tie.Need-loop-holds Inv-loop μ-loop
 loop-holds c =
-    let start = c .before .before in
+    let start = past tie.Start (search) in
     (omega arith, partly-none (start .args .out .now) (start .args .at) (cutLines 1 (take (start .args .count) (start .args .items .now))) (omega arith))
 
 add-put-item : tie.Need-add-put-item Inv-loop μ-loop
@@ -46,8 +49,8 @@ shared-slice-read-put-item c = omega arith
 
 put-item-requires : tie.Need-put-item-requires Inv-loop μ-loop
 put-item-requires c κs =
-    let l = c .before .before .before .loop in
-    let start = c .before .before .before .before .before .before in
+    let l = (let p : tie.At-loop Inv-loop μ-loop = search in p .loop) in
+    let start = (let p : tie.Start Inv-loop μ-loop = search in p) in
     let items = start .args .items .now in
     room-first (l .next) (cutLines (l .i + 1) (getD items (l .i) 0 ∷ [])) (linesFrom (l .i + 1) items (start .args .count))
     (rw (opened items (start .args .count) (l .i) (omega arith) (omega arith)) at (partly-room (l .inv .1) (start .pre .1)))
@@ -60,17 +63,17 @@ loop-less c = omega arith
 
 loop-again : tie.Need-loop-again Inv-loop μ-loop
 loop-again c =
-    let l = c .before .before .before .before .before .before .loop in
-    let a = c .before .before .before .before .before .before .before .before .before .args in
-    (omega arith, partly-more (linesFrom (l .i + 1) (a .items .now) (a .count)) (l .inv .1) (opened (a .items .now) (a .count) (l .i) (omega arith) (omega arith)) (c .before .before .put-item .ensures))
+    let l = past tie.At-loop (search) .loop in
+    let a = past tie.Start (search) .args in
+    (omega arith, partly-more (linesFrom (l .i + 1) (a .items .now) (a .count)) (l .inv .1) (opened (a .items .now) (a .count) (l .i) (omega arith) (omega arith)) (past tie.After-put-item (search) .put-item .ensures))
 
 same-length : tie.Need-same-length Inv-loop μ-loop
-same-length c = partly-kept (c .before .loop .inv .1)
+same-length c = partly-kept (past tie.At-loop (search) .loop .inv .1)
 
 returns : tie.Need-returns Inv-loop μ-loop
 returns c =
-    let a = c .before .before .before .before .args in
-    partly-all (c .before .loop .inv .1) (none-left (a .items .now) (a .count) (c .before .loop .i) (omega arith) (omega arith))
+    let a = past tie.Start (search) .args in
+    partly-all (past tie.At-loop (search) .loop .inv .1) (none-left (a .items .now) (a .count) (past tie.At-loop (search) .loop .i) (omega arith) (omega arith))
 
 pub put-cut-spec : {M : Type 1} → statement M
 put-cut-spec =

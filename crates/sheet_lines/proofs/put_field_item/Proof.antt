@@ -12,6 +12,9 @@ use Rattle.sheet_lines.specs.Lines.{itemWord}
 use Rattle.sheet_lines.proofs.put_field_item.Statement.{statement}
 use Rattle.sheet_lines.proofs.put_field_item.Tie as tie
 
+abbrev past : (P : Type 0) → P → P
+past P p = p
+
 -- the direct link is a word, a radio its number
 word-of-link : (item : ℕ) → item ≡ 255 → itemWord item ≡ link
 word-of-link item e = ap (λ (direct : Bool). cond direct link (decimal item)) (eq-eqb item 255 e)
@@ -23,22 +26,22 @@ slice-aggregate-put-field-word : tie.Need-slice-aggregate-put-field-word
 slice-aggregate-put-field-word c = search needs
 
 put-field-word-requires : tie.Need-put-field-word-requires
-put-field-word-requires c κs = omega (arith, ap length (word-of-link (c .before .before .before .before .args .item) (c .before .before .if1 .taken)))
+put-field-word-requires c κs = omega (arith, ap length (word-of-link (past tie.Start (search) .args .item) (past tie.Then1 (search) .if1 .taken)))
 
 same-length : tie.Need-same-length
 same-length c = omega arith
 
 returns : tie.Need-returns
-returns c = rw (word-of-link (c .before .before .before .before .before .before .before .args .item) (c .before .before .before .before .before .if1 .taken)) (c .before .before .put-field-word .ensures)
+returns c = rw (word-of-link ((let p : tie.Start = search in p .args .item)) ((let p : tie.Then1 = search in p .if1 .taken))) ((let p : tie.After-put-field-word = search in p .put-field-word .ensures))
 
 put-field-number-requires : tie.Need-put-field-number-requires
-put-field-number-requires c κs = omega (arith, ap length (word-of-radio (c .before .before .before .args .item) (c .before .if1 .left)))
+put-field-number-requires c κs = omega (arith, ap length (word-of-radio (past tie.Start (search) .args .item) (past tie.Else1 (search) .if1 .left)))
 
 same-length-2 : tie.Need-same-length-2
 same-length-2 c = omega arith
 
 returns-2 : tie.Need-returns-2
-returns-2 c = rw (word-of-radio (c .before .before .before .before .before .before .args .item) (c .before .before .before .before .if1 .left)) (c .before .before .put-field-number .ensures)
+returns-2 c = rw (word-of-radio ((let p : tie.Start = search in p .args .item)) ((let p : tie.Else1 = search in p .if1 .left))) ((let p : tie.After-put-field-number = search in p .put-field-number .ensures))
 
 pub put-field-item-spec : {M : Type 1} → statement M
 put-field-item-spec =

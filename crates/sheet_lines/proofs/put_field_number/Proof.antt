@@ -4,6 +4,9 @@ use Rattle.sheet_lines.proofs.Writing.{join}
 use Rattle.sheet_lines.proofs.put_field_number.Statement.{statement}
 use Rattle.sheet_lines.proofs.put_field_number.Tie as tie
 
+abbrev past : (P : Type 0) → P → P
+past P p = p
+
 put-byte-requires : tie.Need-put-byte-requires
 put-byte-requires c κs = omega arith
 
@@ -14,9 +17,7 @@ same-length : tie.Need-same-length
 same-length c = omega arith
 
 returns : tie.Need-returns
-returns c =
-    let last = c .before .before in
-    join (last .before .before .before .before .put-byte .ensures) (last .put-number .ensures)
+returns c = join (past tie.After-put-byte (search) .put-byte .ensures) (past tie.After-put-number (search) .put-number .ensures)
 
 pub put-field-number-spec : {M : Type 1} → statement M
 put-field-number-spec = tie.close (tie.spec put-byte-requires put-number-requires same-length returns)

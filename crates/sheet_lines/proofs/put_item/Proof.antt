@@ -12,6 +12,9 @@ use Rattle.sheet_lines.proofs.Lines.{item-size}
 use Rattle.sheet_lines.proofs.put_item.Statement.{statement}
 use Rattle.sheet_lines.proofs.put_item.Tie as tie
 
+abbrev past : (P : Type 0) → P → P
+past P p = p
+
 size : (c : tie.Start) → length (cutLines (c .args .number) (c .args .item ∷ [])) ≡ 6 + length (decimal (c .args .number)) + length (itemWord (c .args .item))
 size c = item-size (c .args .number) (c .args .item)
 
@@ -19,16 +22,16 @@ slice-aggregate-put-bytes : tie.Need-slice-aggregate-put-bytes
 slice-aggregate-put-bytes c = search needs
 
 put-bytes-requires : tie.Need-put-bytes-requires
-put-bytes-requires c κs = omega (arith, size (c .before .before .before))
+put-bytes-requires c κs = omega (arith, size (search))
 
 put-field-number-requires : tie.Need-put-field-number-requires
-put-field-number-requires c κs = omega (arith, size (c .before .before .before .before .before .before .before))
+put-field-number-requires c κs = omega (arith, size (search))
 
 put-field-item-requires : tie.Need-put-field-item-requires
-put-field-item-requires c κs = omega (arith, size (c .before .before .before .before .before .before .before .before .before .before .before))
+put-field-item-requires c κs = omega (arith, size (search))
 
 put-byte-requires : tie.Need-put-byte-requires
-put-byte-requires c κs = omega (arith, size (c .before .before .before .before .before .before .before .before .before .before .before .before .before .before .before))
+put-byte-requires c κs = omega (arith, size (search))
 
 same-length : tie.Need-same-length
 same-length c = omega arith
@@ -36,11 +39,8 @@ same-length c = omega arith
 returns : tie.Need-returns
 unfolding cutLines
 returns c =
-    let line = c .before .before in
-    let item = line .before .before .before .before in
-    let number = item .before .before .before .before in
-    let word = number .before .before .before .before in
-    join (word .put-bytes .ensures) (join (number .put-field-number .ensures) (join (item .put-field-item .ensures) (line .put-byte .ensures)))
+    join (past tie.After-put-bytes (search) .put-bytes .ensures)
+    (join (past tie.After-put-field-number (search) .put-field-number .ensures) (join (past tie.After-put-field-item (search) .put-field-item .ensures) (past tie.After-put-byte (search) .put-byte .ensures)))
 
 pub put-item-spec : {M : Type 1} → statement M
 put-item-spec =

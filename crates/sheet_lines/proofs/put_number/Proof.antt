@@ -12,6 +12,9 @@ Inv-loop out₀ at x digits end rest₀ done₀ out rest done = (done ≤ digits
 abbrev μ-loop : tie.MeasureT-loop
 μ-loop out₀ at x digits end rest₀ done₀ out rest done = digits - done
 
+abbrev past : (P : tie.InvT-loop → tie.MeasureT-loop → Type 0) → P Inv-loop μ-loop → P Inv-loop μ-loop
+past P p = p
+
 width-requires : tie.Need-width-requires Inv-loop μ-loop
 width-requires c κs = tt
 
@@ -20,7 +23,7 @@ add-end c = omega arith
 
 loop-holds : tie.Need-loop-holds Inv-loop μ-loop
 loop-holds c =
-    let a = c .before .before .args in
+    let a = past tie.Start (search) .args in
     (omega arith, from-last-none (a .out .now) (a .x) _ (c .width .result) (omega arith) (c .width .ensures))
 
 sub-place : tie.Need-sub-place Inv-loop μ-loop
@@ -36,7 +39,7 @@ add-out : tie.Need-add-out Inv-loop μ-loop
 add-out c = omega arith
 
 slice-write-out : tie.Need-slice-write-out Inv-loop μ-loop
-slice-write-out c = omega (arith, kept (c .before .loop .inv .1 .written))
+slice-write-out c = omega (arith, kept (past tie.At-loop (search) .loop .inv .1 .written))
 
 add-done : tie.Need-add-done Inv-loop μ-loop
 add-done c = omega arith
@@ -45,13 +48,13 @@ loop-less : tie.Need-loop-less Inv-loop μ-loop
 loop-less c = omega arith
 
 loop-again : tie.Need-loop-again Inv-loop μ-loop
-loop-again c = (omega arith, from-last-more _ (c .before .loop .inv .1) (omega arith) (omega arith))
+loop-again c = (omega arith, from-last-more _ (past tie.At-loop (search) .loop .inv .1) (omega arith) (omega arith))
 
 same-length : tie.Need-same-length Inv-loop μ-loop
-same-length c = kept (c .before .loop .inv .1 .written)
+same-length c = kept (past tie.At-loop (search) .loop .inv .1 .written)
 
 returns : tie.Need-returns Inv-loop μ-loop
-returns c = from-last-all (omega arith) (c .before .loop .inv .1)
+returns c = from-last-all (omega arith) (past tie.At-loop (search) .loop .inv .1)
 
 pub put-number-spec : {M : Type 1} → statement M
 put-number-spec =

@@ -16,6 +16,9 @@ Inv-loop out₀ at radios size next₀ i₀ out next i = (i ≤ length radios) �
 abbrev μ-loop : tie.MeasureT-loop
 μ-loop out₀ at radios size next₀ i₀ out next i = length radios - i
 
+abbrev past : (P : tie.InvT-loop → tie.MeasureT-loop → Type 0) → P Inv-loop μ-loop → P Inv-loop μ-loop
+past P p = p
+
 -- the next radio's field, then those of the others
 opened : (radios : List ℕ) (i : ℕ) → i < length radios → radioFields (drop i radios) [] ≡ field (decimal (getD radios i 0)) ++ radioFields (drop (i + 1) radios) []
 unfolding radioFields
@@ -27,19 +30,19 @@ none-left radios i h = ap (λ (l : List ℕ). radioFields l []) (drop-of-length-
 
 loop-holds : tie.Need-loop-holds Inv-loop μ-loop
 loop-holds c =
-    let start = c .before .before in
+    let start = past tie.Start (search) in
     (omega arith, partly-none (start .args .out .now) (start .args .at) (radioFields (start .args .radios .now) []) (omega arith))
 
 shared-slice-read-put-field-number : tie.Need-shared-slice-read-put-field-number Inv-loop μ-loop
 shared-slice-read-put-field-number c = omega arith
 
 cast-put-field-number : tie.Need-cast-put-field-number Inv-loop μ-loop
-cast-put-field-number c = omega (arith, c .shared-slice-known2 .given (c .before .before .before .loop .i))
+cast-put-field-number c = omega (arith, c .shared-slice-known2 .given (past tie.At-loop (search) .loop .i))
 
 put-field-number-requires : tie.Need-put-field-number-requires Inv-loop μ-loop
 put-field-number-requires c κs =
-    let l = c .before .before .before .loop in
-    let start = c .before .before .before .before .before .before in
+    let l = (let p : tie.At-loop Inv-loop μ-loop = search in p .loop) in
+    let start = (let p : tie.Start Inv-loop μ-loop = search in p) in
     let radios = start .args .radios .now in
     room-first (l .next) (field (decimal (getD radios (l .i) 0))) (radioFields (drop (l .i + 1) radios) []) (rw (opened radios (l .i) (omega arith)) at (partly-room (l .inv .1) (start .pre)))
 
@@ -51,15 +54,15 @@ loop-less c = omega arith
 
 loop-again : tie.Need-loop-again Inv-loop μ-loop
 loop-again c =
-    let l = c .before .before .before .before .before .before .loop in
-    let radios = c .before .before .before .before .before .before .before .before .before .args .radios .now in
-    (omega arith, partly-more (radioFields (drop (l .i + 1) radios) []) (l .inv .1) (opened radios (l .i) (omega arith)) (c .before .before .put-field-number .ensures))
+    let l = past tie.At-loop (search) .loop in
+    let radios = past tie.Start (search) .args .radios .now in
+    (omega arith, partly-more (radioFields (drop (l .i + 1) radios) []) (l .inv .1) (opened radios (l .i) (omega arith)) (past tie.After-put-field-number (search) .put-field-number .ensures))
 
 same-length : tie.Need-same-length Inv-loop μ-loop
-same-length c = partly-kept (c .before .loop .inv .1)
+same-length c = partly-kept (past tie.At-loop (search) .loop .inv .1)
 
 returns : tie.Need-returns Inv-loop μ-loop
-returns c = partly-all (c .before .loop .inv .1) (none-left (c .before .before .before .before .args .radios .now) (c .before .loop .i) (omega arith))
+returns c = partly-all (past tie.At-loop (search) .loop .inv .1) (none-left (past tie.Start (search) .args .radios .now) (past tie.At-loop (search) .loop .i) (omega arith))
 
 pub put-radios-spec : {M : Type 1} → statement M
 put-radios-spec =

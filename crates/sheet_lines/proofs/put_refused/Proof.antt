@@ -11,6 +11,9 @@ use Rattle.sheet_lines.proofs.Lines.{refused-size}
 use Rattle.sheet_lines.proofs.put_refused.Statement.{statement}
 use Rattle.sheet_lines.proofs.put_refused.Tie as tie
 
+abbrev past : (P : Type 0) → P → P
+past P p = p
+
 size : (c : tie.Start) → length (refusedLine (c .args .number) (c .args .place)) ≡ 10 + length (decimal (c .args .number)) + length (decimal (c .args .place))
 size c = refused-size (c .args .number) (c .args .place)
 
@@ -18,16 +21,16 @@ slice-aggregate-put-bytes : tie.Need-slice-aggregate-put-bytes
 slice-aggregate-put-bytes c = search needs
 
 put-bytes-requires : tie.Need-put-bytes-requires
-put-bytes-requires c κs = omega (arith, size (c .before .before .before))
+put-bytes-requires c κs = omega (arith, size (search))
 
 put-field-number-requires : tie.Need-put-field-number-requires
-put-field-number-requires c κs = omega (arith, size (c .before .before .before .before .before .before .before))
+put-field-number-requires c κs = omega (arith, size (search))
 
 put-field-number-requires-2 : tie.Need-put-field-number-requires-2
-put-field-number-requires-2 c κs = omega (arith, size (c .before .before .before .before .before .before .before .before .before .before .before))
+put-field-number-requires-2 c κs = omega (arith, size (search))
 
 put-byte-requires : tie.Need-put-byte-requires
-put-byte-requires c κs = omega (arith, size (c .before .before .before .before .before .before .before .before .before .before .before .before .before .before .before))
+put-byte-requires c κs = omega (arith, size (search))
 
 same-length : tie.Need-same-length
 same-length c = omega arith
@@ -35,11 +38,8 @@ same-length c = omega arith
 returns : tie.Need-returns
 unfolding refusedLine
 returns c =
-    let line = c .before .before in
-    let place = line .before .before .before .before in
-    let number = place .before .before .before .before in
-    let word = number .before .before .before .before in
-    join (word .put-bytes .ensures) (join (number .put-field-number .ensures) (join (place .put-field-number2 .ensures) (line .put-byte .ensures)))
+    join (past tie.After-put-bytes (search) .put-bytes .ensures)
+    (join (past tie.After-put-field-number (search) .put-field-number .ensures) (join (past tie.After-put-field-number2 (search) .put-field-number2 .ensures) (past tie.After-put-byte (search) .put-byte .ensures)))
 
 pub put-refused-spec : {M : Type 1} → statement M
 put-refused-spec =

@@ -14,6 +14,9 @@ use Rattle.sheet_lines.proofs.Lines.{report-size}
 use Rattle.sheet_lines.proofs.put_report.Statement.{statement}
 use Rattle.sheet_lines.proofs.put_report.Tie as tie
 
+abbrev past : (P : Type 0) → P → P
+past P p = p
+
 size : (c : tie.Start) → let a = c .args in
     length (reportLine (a .capture) (a .all) (a .paths) (a .rounds) (a .messages) [])
     ≡ 12 + length (decimal (a .capture)) + length (cond (a .all) full short) + length (decimal (a .paths)) + length (decimal (a .rounds)) + length (decimal (a .messages))
@@ -23,25 +26,25 @@ slice-aggregate-put-bytes : tie.Need-slice-aggregate-put-bytes
 slice-aggregate-put-bytes c = search needs
 
 put-bytes-requires : tie.Need-put-bytes-requires
-put-bytes-requires c κs = omega (arith, size (c .before .before .before))
+put-bytes-requires c κs = omega (arith, size (search))
 
 put-field-number-requires : tie.Need-put-field-number-requires
-put-field-number-requires c κs = omega (arith, size (c .before .before .before .before .before .before .before))
+put-field-number-requires c κs = omega (arith, size (search))
 
 put-field-all-requires : tie.Need-put-field-all-requires
-put-field-all-requires c κs = omega (arith, size (c .before .before .before .before .before .before .before .before .before .before .before))
+put-field-all-requires c κs = omega (arith, size (search))
 
 put-field-number-requires-2 : tie.Need-put-field-number-requires-2
-put-field-number-requires-2 c κs = omega (arith, size (c .before .before .before .before .before .before .before .before .before .before .before .before .before .before .before))
+put-field-number-requires-2 c κs = omega (arith, size (search))
 
 put-field-number-requires-3 : tie.Need-put-field-number-requires-3
-put-field-number-requires-3 c κs = omega (arith, size (c .before .before .before .before .before .before .before .before .before .before .before .before .before .before .before .before .before .before .before))
+put-field-number-requires-3 c κs = omega (arith, size (search))
 
 put-field-number-requires-4 : tie.Need-put-field-number-requires-4
-put-field-number-requires-4 c κs = omega (arith, size (c .before .before .before .before .before .before .before .before .before .before .before .before .before .before .before .before .before .before .before .before .before .before .before))
+put-field-number-requires-4 c κs = omega (arith, size (search))
 
 put-byte-requires : tie.Need-put-byte-requires
-put-byte-requires c κs = omega (arith, size (c .before .before .before .before .before .before .before .before .before .before .before .before .before .before .before .before .before .before .before .before .before .before .before .before .before .before .before))
+put-byte-requires c κs = omega (arith, size (search))
 
 same-length : tie.Need-same-length
 same-length c = omega arith
@@ -49,17 +52,11 @@ same-length c = omega arith
 returns : tie.Need-returns
 unfolding reportLine
 returns c =
-    let line = c .before .before in
-    let messages = line .before .before .before .before in
-    let rounds = messages .before .before .before .before in
-    let paths = rounds .before .before .before .before in
-    let all = paths .before .before .before .before in
-    let capture = all .before .before .before .before in
-    let word = capture .before .before .before .before in
-    join (word .put-bytes .ensures)
-    (join (capture .put-field-number .ensures)
-    (join (all .put-field-all .ensures)
-    (join (paths .put-field-number2 .ensures) (join (rounds .put-field-number3 .ensures) (join (messages .put-field-number4 .ensures) (line .put-byte .ensures))))))
+    join (past tie.After-put-bytes (search) .put-bytes .ensures)
+    (join (past tie.After-put-field-number (search) .put-field-number .ensures)
+    (join (past tie.After-put-field-all (search) .put-field-all .ensures)
+    (join (past tie.After-put-field-number2 (search) .put-field-number2 .ensures)
+    (join (past tie.After-put-field-number3 (search) .put-field-number3 .ensures) (join (past tie.After-put-field-number4 (search) .put-field-number4 .ensures) (past tie.After-put-byte (search) .put-byte .ensures))))))
 
 pub put-report-spec : {M : Type 1} → statement M
 put-report-spec =

@@ -14,6 +14,9 @@ Inv-loop x rest₀ digits₀ rest digits = (digits + length (decimal rest) ≡ 1
 abbrev μ-loop : tie.MeasureT-loop
 μ-loop x rest₀ digits₀ rest digits = rest
 
+abbrev past : (P : tie.InvT-loop → tie.MeasureT-loop → Type 0) → P Inv-loop μ-loop → P Inv-loop μ-loop
+past P p = p
+
 loop-holds : tie.Need-loop-holds Inv-loop μ-loop
 loop-holds c = omega arith
 
@@ -24,10 +27,10 @@ loop-less : tie.Need-loop-less Inv-loop μ-loop
 loop-less c = omega arith
 
 loop-again : tie.Need-loop-again Inv-loop μ-loop
-loop-again c = omega (arith, one-more-digit (c .before .loop .rest) (omega arith))
+loop-again c = omega (arith, one-more-digit (past tie.At-loop (search) .loop .rest) (omega arith))
 
 returns : tie.Need-returns Inv-loop μ-loop
-returns c = omega (arith, ap length (one-digit (c .before .loop .rest) (omega arith)))
+returns c = omega (arith, ap length (one-digit (past tie.At-loop (search) .loop .rest) (omega arith)))
 
 pub width-spec : {M : Type 1} → statement M
 width-spec =

@@ -1,60 +1,69 @@
--- `sheet_text::put_sheet` meets its contract. Assumes nothing.
+-- `sheet_text::put_sheet` meets its contract: the parts of the sheet have room one after the other. Assumes nothing.
 use native.Mathlib.Omega.{arith}
-use borrow.Author.Tests.{lt-ltb, le-ltb, eq-eqb, ne-eqb}
 use borrow.Author.Needs.{needs}
-use Rattle.sheet_text.specs.Sheet.{mostBytes, sheet}
-use Rattle.sheet_text.proofs.Refusals.{line-fits, wrong-small}
+use borrow.Author.Tests.{eqb-true, eqb-false}
+use Rattle.sheet_lines.proofs.Room.{Small, small-bytes}
+use Rattle.sheet_text.proofs.Found.{refused-room, refused-sheet, listed, report-room, paths-room, full-sheet, items-room, short-sheet}
 use Rattle.sheet_text.proofs.put_sheet.Statement.{statement}
 use Rattle.sheet_text.proofs.put_sheet.Tie as tie
 
-put-refused-requires : tie.Need-put-refused-requires
-put-refused-requires c κs = line-fits 10 0 (omega arith) (omega arith) (c .before .before .before .before .pre)
+abbrev past : (P : Type 0) → P → P
+past P p = p
 
-same-length : tie.Need-same-length
-same-length c = search needs
+abbrev the-start : tie.After-shared-slice-known2 → tie.Start
+the-start c = search
+
+-- both lists are bytes
+bytes : (c : tie.After-shared-slice-known2) → Small (the-start c .args .paths .now) × Small (the-start c .args .cut .now)
+bytes c = (
+  small-bytes (the-start c .args .paths .now) (λ i. omega (arith, past tie.After-shared-slice-known (search) .shared-slice-known .given i)),
+  small-bytes (the-start c .args .cut .now) (λ i. omega (arith, c .shared-slice-known2 .given i)),
+)
+
+put-refused-requires : tie.Need-put-refused-requires
+put-refused-requires c κs = let pre = past tie.Start (search) .pre in refused-room (pre .0 .1) (pre .1)
 
 returns : tie.Need-returns
-unfolding sheet
-returns c =
-    rw (lt-ltb mostBytes _ (c .before .before .before .before .if1 .taken)) (c .before .before .put-refused .ensures)
+returns c = λ survey tells. refused-sheet tells (past tie.Then1 (search) .if1 .taken) (past tie.After-put-refused (search) .put-refused .ensures)
 
-first-wrong-requires : tie.Need-first-wrong-requires
-first-wrong-requires c κs = search needs
+put-report-requires : tie.Need-put-report-requires
+put-report-requires c κs =
+    let start = past tie.Start (search) in
+    report-room (start .pre .0 .1) (bytes (search)) (start .args .out .now) (start .pre .1)
 
-put-refused-requires-2 : tie.Need-put-refused-requires-2
-put-refused-requires-2 c κs =
-    line-fits 9 _ (omega arith) (omega (arith, c .before .before .first-wrong .ensures, wrong-small (c .before .before .before .before .before .before .args .text .now) (c .before .before .before .if1 .left))) (c .before .before .before .before .before .before .pre)
-
-same-length-2 : tie.Need-same-length-2
-same-length-2 c = search needs
+put-paths-requires : tie.Need-put-paths-requires
+put-paths-requires c κs =
+    let pre = past tie.Start (search) .pre in
+    paths-room (pre .0 .1) (bytes (search)) _ (pre .1) (past tie.After-put-report (search) .put-report .ensures)
 
 returns-2 : tie.Need-returns-2
-unfolding sheet
-returns-2 c =
-    rw (le-ltb mostBytes _ (c .before .before .before .before .before .before .if1 .left), ← c .before .before .before .before .before .first-wrong .ensures, ne-eqb _ 0 (c .before .before .before .before .if2 .taken)) (c .before .before .put-refused2 .ensures)
+returns-2 c = λ survey tells.
+    full-sheet tells (bytes (search)) _ (past tie.Start (search) .pre .1) (past tie.After-put-report (search) .put-report .ensures)
+    (past tie.After-put-paths (search) .put-paths .ensures _ (listed tells)) (past tie.Else1 (search) .if1 .left) (eqb-true _ _ (past tie.Then2 (search) .if2 .taken))
 
-put-lines-requires : tie.Need-put-lines-requires
-put-lines-requires c κs = search needs
-
-same-length-3 : tie.Need-same-length-3
-same-length-3 c = search needs
+put-cut-requires : tie.Need-put-cut-requires
+put-cut-requires c κs =
+    let pre = past tie.Start (search) .pre in
+    items-room (pre .0 .1) (bytes (search)) _ (pre .1) (past tie.After-put-report (search) .put-report .ensures)
+    (past tie.After-put-paths (search) .put-paths .ensures _ (listed (pre .0 .1))) (eqb-false _ _ (past tie.Else2 (search) .if2 .left))
 
 returns-3 : tie.Need-returns-3
-unfolding sheet
-returns-3 c =
-    rw (le-ltb mostBytes _ (c .before .before .before .before .before .before .if1 .left), ← c .before .before .before .before .before .first-wrong .ensures, eq-eqb _ 0 (c .before .before .before .before .if2 .left)) (c .before .before .put-lines .ensures)
+returns-3 c = λ survey tells.
+    short-sheet tells (bytes (search)) _ (past tie.Start (search) .pre .1) (past tie.After-put-report (search) .put-report .ensures)
+    (past tie.After-put-paths (search) .put-paths .ensures _ (listed tells)) (eqb-false _ _ (past tie.Else2 (search) .if2 .left)) (past tie.Else1 (search) .if1 .left)
+    (past tie.After-put-cut (search) .put-cut .ensures)
 
 pub put-sheet-spec : {M : Type 1} → statement M
 put-sheet-spec =
     tie.close
     (tie.spec
     put-refused-requires
-    same-length
+    (λ c. search needs)
     returns
-    first-wrong-requires
-    put-refused-requires-2
-    same-length-2
+    put-report-requires
+    put-paths-requires
+    (λ c. search needs)
     returns-2
-    put-lines-requires
-    same-length-3
+    put-cut-requires
+    (λ c. search needs)
     returns-3)

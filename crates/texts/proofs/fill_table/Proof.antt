@@ -1,90 +1,57 @@
 -- `texts::fill_table` meets its contract. The loop's invariant: what `Filling` says of the lines passed. Assumes nothing.
-use mathlib.Core.Path.{sym, ap, _∙_}
-use Prim.Native.Nat.{ℕ, _+_, _-_, _≤_}
+use mathlib.Core.Path.{sym, _∙_}
+use Prim.Native.Nat.{_+_, _-_}
 use native.Mathlib.Omega.{arith}
-use lib.ListN.{length, replicate}
+use lib.ListN.{length}
 use borrow.Author.Tests.{not-true, not-false}
-use Rattle.captures.specs.Words.{lineFeed}
-use Rattle.captures.proofs.Pieces.{end-between}
-use Rattle.texts.proofs.Tables.{Filling, filling-none, filling-skip, filled-bad, filling-more, filled}
+use Rattle.texts.proofs.Tables.{Filling, cleared, filling-none, line-between, filled-fault, filling-more, filled}
 use Rattle.texts.proofs.fill_table.Statement.{statement}
 use Rattle.texts.proofs.fill_table.Tie as tie
 
 abbrev Inv-loop : tie.InvT-loop
-Inv-loop text from n table₀ number₀ at₀ table number at = Filling text from n table number at
+Inv-loop text from n table₀ number₀ at₀ end₀ table number at end = Filling text from n table number at end
 
 abbrev μ-loop : tie.MeasureT-loop
-μ-loop text from n table₀ number₀ at₀ table number at = length text + 1 - at
+μ-loop text from n table₀ number₀ at₀ end₀ table number at end = length text + 1 - at
 
-clear-requires : tie.Need-clear-requires Inv-loop μ-loop
-clear-requires c κs = tt
+abbrev past : (P : tie.InvT-loop → tie.MeasureT-loop → Type 0) → P Inv-loop μ-loop → P Inv-loop μ-loop
+past P p = p
 
 loop-holds : tie.Need-loop-holds Inv-loop μ-loop
-loop-holds c = filling-none _ _ _ _ (c .before .before .before .before .before .before .pre .0) (c .before .before .clear .ensures ∙ ap (λ (k : ℕ). replicate k 0) (c .before .before .before .before .before .before .pre .2))
+loop-holds c =
+    let start = past tie.Start (search) in
+    filling-none (start .pre .0) (c .end-of .ensures) (cleared (start .args .table .now) _ (past tie.After-clear-from (search) .clear-from .ensures) (start .pre .2))
 
-end-of-requires : tie.Need-end-of-requires Inv-loop μ-loop
-end-of-requires c κs = c .loop-test .taken
+between : tie.Need-part-line-of-start Inv-loop μ-loop
+between c = line-between (past tie.At-loop (search) .loop .inv) .0
 
-between : (c : tie.After-end-of Inv-loop μ-loop)
-    → (c .before .before .loop .at ≤ c .end-of .result) × (c .end-of .result ≤ length (c .before .before .before .before .before .before .before .before .before .args .text .now))
-between c = end-between lineFeed (c .before .before .before .before .before .before .before .before .before .args .text .now) (c .before .before .loop .at) (c .end-of .result) (c .before .loop-test .taken) (c .end-of .ensures)
-
-sub-line-of : tie.Need-sub-line-of Inv-loop μ-loop
-sub-line-of c = omega (arith, between c .0)
-
-part-line-of-start : tie.Need-part-line-of-start Inv-loop μ-loop
-part-line-of-start c = between c .0
-
-part-line-of-end : tie.Need-part-line-of-end Inv-loop μ-loop
-part-line-of-end c = between c .1
-
-line-of-requires : tie.Need-line-of-requires Inv-loop μ-loop
-line-of-requires c κs = tt
-
-add-at : tie.Need-add-at Inv-loop μ-loop
-add-at c = omega (arith, between (c .before .before) .1)
-
-enum-known-line : tie.Need-enum-known-line Inv-loop μ-loop
-enum-known-line c = omega arith
-
-enum-told : tie.Need-enum-told Inv-loop μ-loop
-enum-told c = omega arith
-
-loop-less : tie.Need-loop-less Inv-loop μ-loop
-loop-less c = omega (arith, between (c .before .before .before .before) .0)
-
-loop-again : tie.Need-loop-again Inv-loop μ-loop
-loop-again c =
-    let l = c .before .before .before .before .before .before .loop in
-    filling-skip _ _ _ (l .table) (l .number) (l .at) _ (l .inv) (c .before .before .before .before .before .loop-test .taken) (c .before .before .before .before .end-of .ensures) (sym (c .enum-told .given .1) ∙ c .before .before .line-of .ensures)
-
-add-link-requires : tie.Need-add-link-requires Inv-loop μ-loop
-add-link-requires c κs = (c .before .before .before .before .before .before .before .before .before .before .before .before .before .before .before .pre .1, c .before .before .before .before .before .before .before .before .loop .inv .long)
+add-line-requires : tie.Need-add-line-requires Inv-loop μ-loop
+add-line-requires c κs = (past tie.Start (search) .pre .1, past tie.At-loop (search) .loop .inv .long)
 
 same-length : tie.Need-same-length Inv-loop μ-loop
-same-length c = c .before .before .before .add-link .kept .1 .1 .1 .0 ∙ c .before .before .before .before .before .before .before .before .before .before .before .before .loop .inv .long ∙ sym (c .before .before .before .before .before .before .before .before .before .before .before .before .before .before .before .before .before .before .before .pre .2)
+same-length c = past tie.After-add-line (search) .add-line .kept .1 .1 .0 ∙ past tie.At-loop (search) .loop .inv .long ∙ sym (past tie.Start (search) .pre .2)
 
 returns : tie.Need-returns Inv-loop μ-loop
 returns c =
-    let l = c .before .before .before .before .before .before .before .before .before .before .before .before .loop in
-    filled-bad _ _ _ (l .table) (l .number) (l .at) _ (l .inv) (c .before .before .before .before .before .before .before .before .before .before .before .loop-test .taken) (c .before .before .before .before .before .before .before .before .before .before .end-of .ensures) _ _ (sym (c .before .before .before .before .before .before .line .given .1) ∙ c .before .before .before .before .before .before .before .before .line-of .ensures) _ _ (c .before .before .before .add-link .ensures) (not-true _ (c .if1 .taken))
+    filled-fault (past tie.At-loop (search) .loop .inv) (past tie.In-loop (search) .loop-test .taken) (past tie.After-line-of (search) .line-of .ensures)
+    (past tie.After-add-line (search) .add-line .ensures) (not-true _ (c .if1 .taken))
 
 add-number : tie.Need-add-number Inv-loop μ-loop
-add-number c = omega (arith, c .before .before .before .before .before .before .before .before .before .before .before .before .loop .inv .few, c .before .before .before .before .before .before .before .before .before .before .before .loop-test .taken, c .before .before .before .before .before .before .before .before .before .before .before .before .before .before .before .before .before .before .before .good)
+add-number c = let few = past tie.At-loop (search) .loop .inv .few in omega (arith, line-between (past tie.At-loop (search) .loop .inv) .0)
 
-loop-less-2 : tie.Need-loop-less-2 Inv-loop μ-loop
-loop-less-2 c = omega (arith, between (c .before .before .before .before .before .before .before .before .before .before) .0)
+loop-less : tie.Need-loop-less Inv-loop μ-loop
+loop-less c = omega (arith, line-between (past tie.At-loop (search) .loop .inv) .0)
 
-loop-again-2 : tie.Need-loop-again-2 Inv-loop μ-loop
-loop-again-2 c =
-    let l = c .before .before .before .before .before .before .before .before .before .before .before .before .loop in
-    filling-more _ _ _ (l .table) (l .number) (l .at) _ (l .inv) (c .before .before .before .before .before .before .before .before .before .before .before .loop-test .taken) (c .before .before .before .before .before .before .before .before .before .before .end-of .ensures) _ _ (sym (c .before .before .before .before .before .before .line .given .1) ∙ c .before .before .before .before .before .before .before .before .line-of .ensures) _ _ (c .before .before .before .add-link .ensures) (not-false _ (c .if1 .left))
+loop-again : tie.Need-loop-again Inv-loop μ-loop
+loop-again c =
+    filling-more (past tie.At-loop (search) .loop .inv) (past tie.In-loop (search) .loop-test .taken) (past tie.After-line-of (search) .line-of .ensures)
+    (past tie.After-add-line (search) .add-line .ensures) (not-false _ (past tie.Else1 (search) .if1 .left)) (c .end-of2 .ensures)
 
 same-length-2 : tie.Need-same-length-2 Inv-loop μ-loop
-same-length-2 c = c .before .loop .inv .long ∙ sym (c .before .before .before .before .before .before .before .before .pre .2)
+same-length-2 c = past tie.At-loop (search) .loop .inv .long ∙ sym (past tie.Start (search) .pre .2)
 
 returns-2 : tie.Need-returns-2 Inv-loop μ-loop
-returns-2 c = filled _ _ _ _ _ _ (c .before .loop .inv) (c .loop-test .left)
+returns-2 c = filled (past tie.At-loop (search) .loop .inv) (c .loop-test .left)
 
 pub fill-table-spec : {M : Type 1} → statement M
 fill-table-spec =
@@ -92,23 +59,20 @@ fill-table-spec =
     (tie.spec
     Inv-loop
     μ-loop
-    clear-requires
+    (λ c κs. omega arith)
+    (λ c κs. omega arith)
     loop-holds
-    end-of-requires
-    sub-line-of
-    part-line-of-start
-    part-line-of-end
-    line-of-requires
-    add-at
-    enum-known-line
-    enum-told
-    loop-less
-    loop-again
-    add-link-requires
+    (λ c. omega (arith, between c))
+    between
+    (λ c. omega arith)
+    (λ c κs. tt)
+    add-line-requires
     same-length
     returns
     add-number
-    loop-less-2
-    loop-again-2
+    (λ c. omega arith)
+    (λ c κs. omega arith)
+    loop-less
+    loop-again
     same-length-2
     returns-2)

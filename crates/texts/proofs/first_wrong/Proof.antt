@@ -15,6 +15,9 @@ Inv-loop text number₀ at₀ end₀ number at end = Passed text number at end
 abbrev μ-loop : tie.MeasureT-loop
 μ-loop text number₀ at₀ end₀ number at end = length text + 1 - at
 
+abbrev past : (P : tie.InvT-loop → tie.MeasureT-loop → Type 0) → P Inv-loop μ-loop → P Inv-loop μ-loop
+past P p = p
+
 end-of-requires : tie.Need-end-of-requires Inv-loop μ-loop
 end-of-requires c κs = omega arith
 
@@ -22,10 +25,10 @@ loop-holds : tie.Need-loop-holds Inv-loop μ-loop
 loop-holds c = passed-none _ _ (c .end-of .ensures)
 
 sub-is-right : tie.Need-sub-is-right Inv-loop μ-loop
-sub-is-right c = omega (arith, bounds _ _ _ _ (c .before .loop .inv) .0)
+sub-is-right c = omega (arith, bounds _ _ _ _ (past tie.At-loop (search) .loop .inv) .0)
 
 part-is-right-start : tie.Need-part-is-right-start Inv-loop μ-loop
-part-is-right-start c = omega (arith, bounds _ _ _ _ (c .before .loop .inv) .0)
+part-is-right-start c = omega (arith, bounds _ _ _ _ (past tie.At-loop (search) .loop .inv) .0)
 
 part-is-right-end : tie.Need-part-is-right-end Inv-loop μ-loop
 part-is-right-end c = omega arith
@@ -35,8 +38,8 @@ is-right-requires c κs = tt
 
 returns : tie.Need-returns Inv-loop μ-loop
 returns c =
-    let l = c .before .before .before .before .loop in
-    sym (wrong-here _ (l .number) (l .at) (l .end) (l .inv) (c .before .before .before .loop-test .taken) (sym (c .before .is-right .ensures) ∙ not-true _ (c .if1 .taken)))
+    let l = past tie.At-loop (search) .loop in
+    sym (wrong-here _ (l .number) (l .at) (l .end) (l .inv) (past tie.In-loop (search) .loop-test .taken) (sym (past tie.After-is-right (search) .is-right .ensures) ∙ not-true _ (c .if1 .taken)))
 
 add-number : tie.Need-add-number Inv-loop μ-loop
 add-number c = omega arith
@@ -48,24 +51,24 @@ end-of-requires-2 : tie.Need-end-of-requires-2 Inv-loop μ-loop
 end-of-requires-2 c κs = omega arith
 
 loop-less : tie.Need-loop-less Inv-loop μ-loop
-loop-less c = omega (arith, bounds _ _ _ _ (c .before .before .before .before .before .loop .inv) .0)
+loop-less c = omega (arith, bounds _ _ _ _ (past tie.At-loop (search) .loop .inv) .0)
 
 loop-again : tie.Need-loop-again Inv-loop μ-loop
 loop-again c =
-    let l = c .before .before .before .before .before .loop in
-    passed-more _ (l .number) (l .at) (l .end) (l .inv) _ (c .before .before .before .before .loop-test .taken) (sym (c .before .before .is-right .ensures) ∙ not-false _ (c .before .if1 .left)) (c .end-of2 .ensures)
+    let l = past tie.At-loop (search) .loop in
+    passed-more _ (l .number) (l .at) (l .end) (l .inv) _ (past tie.In-loop (search) .loop-test .taken) (sym (past tie.After-is-right (search) .is-right .ensures) ∙ not-false _ (past tie.Else1 (search) .if1 .left)) (c .end-of2 .ensures)
 
 returns-2 : tie.Need-returns-2 Inv-loop μ-loop
 returns-2 c =
-    let l = c .before .before .before .loop in
-    sym (wrong-none _ (l .number) (l .at) (l .end) (l .inv) (c .before .before .loop-test .left) (omega arith) (eqb-false _ _ (not-true _ (c .if3 .taken))))
+    let l = past tie.At-loop (search) .loop in
+    sym (wrong-none _ (l .number) (l .at) (l .end) (l .inv) (past tie.After-loop (search) .loop-test .left) (omega arith) (eqb-false _ _ (not-true _ (c .if3 .taken))))
 
 returns-3 : tie.Need-returns-3 Inv-loop μ-loop
 returns-3 c =
-    let l = c .before .before .loop in
+    let l = past tie.At-loop (search) .loop in
     sym (⊎-elim
-    (λ w. wrong-first _ (l .number) (l .at) (l .end) (l .inv) (c .before .loop-test .left) (eqb-true _ _ (not-false _ (w .1 .left))))
-    (λ w. wrong-open _ (l .number) (l .at) (l .end) (l .inv) (c .before .loop-test .left) (w .left))
+    (λ w. wrong-first _ (l .number) (l .at) (l .end) (l .inv) (past tie.After-loop (search) .loop-test .left) (eqb-true _ _ (not-false _ (w .1 .left))))
+    (λ w. wrong-open _ (l .number) (l .at) (l .end) (l .inv) (past tie.After-loop (search) .loop-test .left) (w .left))
     (c .if2 .came))
 
 pub first-wrong-spec : {M : Type 1} → statement M

@@ -1,4 +1,4 @@
--- A text written out byte by byte: capture 10 of two linked radios, with one path wanted.
+-- A text written out byte by byte: capture 10 of two linked radios, with one path wanted. Assumes nothing.
 use mathlib.Core.Path.{_≡_, refl}
 use mathlib.Core.List.{[], _∷_}
 use Rattle.captures.specs.Text.{digits}
