@@ -9,6 +9,10 @@ const LIBRARY: &str = "libfogsignaller.a";
 
 fn main() {
     println!("cargo:rerun-if-env-changed=FOGSIGNALLER_LIB");
+    if env::var("CARGO_CFG_TARGET_ARCH").as_deref() != Ok("x86_64") {
+        eprintln!("{LIBRARY} is for x86-64: build with --target x86_64-unknown-linux-gnu.");
+        std::process::exit(1);
+    }
     let folder = match env::var_os("FOGSIGNALLER_LIB") {
         Some(folder) => PathBuf::from(folder),
         None => PathBuf::from(env!("CARGO_MANIFEST_DIR")).join("../target"),
