@@ -11,12 +11,13 @@ use lib.Seq.{take-at}
 use borrow.Author.Tests.{eq-eqb, ne-eqb}
 use Rattle.buffers.specs.Zeros.{zerosAfter}
 use Rattle.outcome.specs.declared.Outcome.{Outcome}
-use Rattle.path_lists.specs.Bytes.{pathBytes}
+use Rattle.path_lists.specs.Bytes.{pathBytes, Holds}
+use Rattle.path_lists.proofs.Walking.{holds-front}
 use Rattle.sheet_lines.specs.Lines.{refusedLine, reportLine, pathLines, cutLines}
-use Rattle.sheet_lines.specs.Written.{Written, PathList, Listed}
+use Rattle.sheet_lines.specs.Written.{Written, Listed}
 use Rattle.sheet_lines.proofs.Writing.{join, kept, room-first, room-then, used}
 use Rattle.sheet_lines.proofs.Lines.{sheet-in-parts}
-use Rattle.sheet_lines.proofs.Room.{Small, Moderate, refused-fits, sheet-fits, path-list, small-take, small-paths}
+use Rattle.sheet_lines.proofs.Room.{Small, Moderate, refused-fits, sheet-fits, small-take, small-paths}
 use Rattle.text_survey.specs.declared.Surveyed.{Surveyed}
 use Rattle.text_survey.specs.Survey.{pathsLent, cutLent, TextSurvey}
 use Rattle.text_survey.specs.Tells.{Bounded, Tells}
@@ -53,10 +54,10 @@ module _ {survey : TextSurvey} {found : Surveyed} {paths cut : List ℕ} (tells 
 
   -- ---- the lists
 
-  pub listed : PathList paths (o .paths) (survey .paths)
+  pub listed : Holds paths (o .paths) (survey .paths)
   listed =
-      subst (λ (n : ℕ). PathList paths n (survey .paths)) (bounded .number)
-      (path-list paths (survey .paths) (replicate (pathsLent - length (pathBytes (survey .paths))) 0) (tells .paths-are))
+      subst (λ (n : ℕ). Holds paths n (survey .paths)) (bounded .number)
+      (holds-front paths (survey .paths) (replicate (pathsLent - length (pathBytes (survey .paths))) 0) (tells .paths-are))
 
   -- where a path is lacking there is an item for each that was found
   items-are : (o .paths ≡ found .wanted → ⊥) → take (o .paths) cut ≡ survey .cut

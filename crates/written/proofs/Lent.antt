@@ -1,10 +1,11 @@
 -- The program lends enough: of the refusals 1 to 8 a call that it makes meets only 4, 5 and 6. Assumes nothing.
 use mathlib.Core.Path.{_≡_, refl, sym, ap, _∙_}
 use mathlib.Core.Bool.{Bool, true, false, not, _||_, cond}
-use mathlib.Core.List.{List, [], _∷_}
+use mathlib.Core.List.{List, [], _∷_, _++_}
 use mathlib.Core.Logic.{_⊎_, inl, inr}
 use Prim.Native.Nat.{ℕ, suc, _+_, _-_, _*_, _/_, _%_, _≤_, _<_}
 use native.Mathlib.Nat.{div-add-mod', mul-le-mul}
+use native.Mathlib.Decide.{ℕ-discrete}
 use native.Mathlib.Omega.{arith}
 use lib.Dec.{eqb, ltb}
 use lib.ListN.{getD}
@@ -12,16 +13,16 @@ use borrow.Author.Tests.{eq-eqb, eqb-true, ltb-true}
 use Rattle.basics.specs.Counting.{oneIf}
 use Rattle.basics.specs.Lists.{All}
 use Rattle.basics.proofs.Bools.{clash, both-ways, or-left, or-right, or-cases}
+use Rattle.basics.specs.Numbered.{Conditions, Gives, NoneHolds}
 use Rattle.basics.proofs.Counting.{some-counts}
+use Rattle.basics.proofs.Numbered.{gives-parts}
 use Rattle.site.specs.Limits.{mostRadios}
 use Rattle.site.specs.Map.{Site, degree, links, link, A}
 use Rattle.refusals.specs.Refusals.{Call, callOf, verdict, number}
-use Rattle.refusals.specs.Conditions.{Fault, no-bit, diagonal, mirror}
-use Rattle.refusals.specs.declared.Verdict.{Verdict}
-use Rattle.refusals.specs.declared.Verdict.the-variants.{Accepted, Radios, TableLength, Cell, Links, Ends, Wanted, Log, Lists}
+use Rattle.refusals.specs.Conditions.{Fault, no-bit, diagonal, mirror, mapConditions, pairConditions, roomConditions, conditions}
 use Rattle.site.proofs.Formula.{Even, steps-and-degrees}
-use Rattle.refusals.proofs.Exactly.{refused-exactly}
-use Rattle.refusals.proofs.Accepted.{even-links}
+use Rattle.refusals.proofs.Exactly.{call-exact}
+use Rattle.refusals.proofs.Accepted.{SoundMap, sound-map, GoodPair, good-pair}
 use Rattle.outcome.specs.Leaves.{outcome}
 use Rattle.captures.specs.Capture.{came, atFault, faultLine, tableOf}
 use Rattle.captures.specs.declared.Line.{Line}
@@ -149,50 +150,72 @@ module _ (n S T k : ℕ) (lines : List Line) (two : 2 ≤ n) (most : n ≤ mostR
   sound : (place : ℕ) → place < n * n → Fault (tableOf n lines) n place → ⊥
   sound = no-fault n lines (all-ordered n 1 [] lines good) (omega arith)
 
-  not-1 : number (verdict (lentCall n S T k lines)) ≡ 1 → ⊥
-  not-1 e = go (refused-exactly (lentCall n S T k lines) 0 .0 e .0)
-    where
-      go : (n < 2) ⊎ (64 < n) → ⊥
-      go (inl p) = omega arith
-      go (inr p) = omega arith
+  abbrev call : Call
+  call = lentCall n S T k lines
 
-  not-2 : number (verdict (lentCall n S T k lines)) ≡ 2 → ⊥
-  not-2 e = refused-exactly (lentCall n S T k lines) 1 .0 e .0 (table-of-long n lines)
+  abbrev on-map : Conditions
+  on-map = mapConditions (tableOf n lines) n
 
-  not-3 : number (verdict (lentCall n S T k lines)) ≡ 3 → ⊥
-  not-3 e = let w = refused-exactly (lentCall n S T k lines) 2 .0 e .0 in sound (w .0) (w .1) (w .2)
+  abbrev on-pair : Conditions
+  on-pair = pairConditions n S T k
+
+  abbrev on-room : Conditions
+  on-room = roomConditions n k (A (call .site)) logLent pathsLent cutLent
+
+  given : (c : ℕ) → (c ≡ 0 → ⊥) → number (verdict call) ≡ c → Gives (conditions call) c
+  given c some e = call-exact call .law .given c some .0 e
+
+  -- no condition on the map holds but that it has too many links
+  not-by-map : (c : ℕ) → Gives on-map c → c ≡ 4
+  not-by-map c (inl (e, inl p)) = absurd (omega arith)
+  not-by-map c (inl (e, inr p)) = absurd (omega arith)
+  not-by-map c (inr (p₁, inl (e, p))) = absurd (p (table-of-long n lines))
+  not-by-map c (inr (p₁, inr (p₂, inl (e, p)))) = absurd (sound (p .0) (p .1) (p .2))
+  not-by-map c (inr (p₁, inr (p₂, inr (p₃, inl (e, p))))) = e
+  not-by-map c (inr (p₁, inr (p₂, inr (p₃, inr (p₄, g))))) = absurd g
 
   -- 17 · 574 messages of four bytes are the 39,032 lent
-  not-7 : number (verdict (lentCall n S T k lines)) ≡ 7 → ⊥
-  not-7 e =
-      let first = refused-exactly (lentCall n S T k lines) 6 .0 e in
-      let few : 256 < links (tableOf n lines) n → ⊥ = first .1 3 (omega arith) in
-      let source : n ≤ S → ⊥ = λ p. first .1 4 (omega arith) (inl p) in
-      let sink : n ≤ T → ⊥ = λ p. first .1 4 (omega arith) (inr (inl p)) in
-      let wanted : 8 < k → ⊥ = λ p. first .1 5 (omega arith) (inr p) in
-      let steps = most-steps (lentCall n S T k lines .site) (omega arith) (omega arith) (λ d. first .1 4 (omega arith) (inr (inr d))) (even-links (tableOf n lines) n sound) in
-      let messages : (2 * k + 1) * A (lentCall n S T k lines .site) ≤ 17 * 574 = mul-le-mul {n₂ = 17} {m₂ = 574} (omega arith) (omega (arith, steps)) in
-      omega (arith, messages, first .0)
-
-  not-8 : number (verdict (lentCall n S T k lines)) ≡ 8 → ⊥
-  not-8 e = let first = refused-exactly (lentCall n S T k lines) 7 .0 e in go (λ p. first .1 5 (omega arith) (inr p)) (first .0)
+  not-by-room : (c : ℕ) → NoneHolds on-map → NoneHolds on-pair → Gives on-room c → ⊥
+  not-by-room c map-sound pair-good given = go given
     where
-      go : (8 < k → ⊥) → (pathsLent < n - 2 + 3 * k) ⊎ (cutLent < k) → ⊥
-      go wanted (inl p) = omega arith
-      go wanted (inr p) = wanted p
+      map : SoundMap (tableOf n lines) n
+      map = sound-map (tableOf n lines) n map-sound
+
+      pair : GoodPair n S T k
+      pair = good-pair n S T k pair-good
+
+      messages : (2 * k + 1) * A (call .site) ≤ 17 * 574
+      messages =
+          let steps = most-steps (call .site) (pair .S-below) (pair .T-below) (pair .ends-differ) (map .even) in
+          mul-le-mul {n₂ = 17} {m₂ = 574} (omega (arith, pair .few-wanted)) (omega (arith, steps, map .few-links, map .few-radios))
+
+      go : Gives on-room c → ⊥
+      go (inl (e, p)) = omega (arith, messages, p)
+      go (inr (p₇, inl (e, inl p))) = omega (arith, p, pair .few-wanted, map .few-radios)
+      go (inr (p₇, inl (e, inr p))) = omega (arith, p, pair .few-wanted)
+      go (inr (p₇, inr (p₈, g))) = g
+
+  -- so a number that is given is 4, 5 or 6
+  left : (c : ℕ) → Gives (conditions call) c → (c ≡ 4) ⊎ (c ≡ 5) ⊎ (c ≡ 6)
+  left c g = go (gives-parts on-map (on-pair ++ on-room) c g)
+    where
+      by-pair : Gives on-pair c → (c ≡ 4) ⊎ (c ≡ 5) ⊎ (c ≡ 6)
+      by-pair (inl own) = inr (inl (own .0))
+      by-pair (inr (p₅, inl own)) = inr (inr (own .0))
+      by-pair (inr (p₅, inr (p₆, none))) = absurd none
+
+      later : NoneHolds on-map → Gives on-pair c ⊎ (NoneHolds on-pair × Gives on-room c) → (c ≡ 4) ⊎ (c ≡ 5) ⊎ (c ≡ 6)
+      later map-sound (inl own) = by-pair own
+      later map-sound (inr w) = absurd (not-by-room c map-sound (w .0) (w .1))
+
+      go : Gives on-map c ⊎ (NoneHolds on-map × Gives (on-pair ++ on-room) c) → (c ≡ 4) ⊎ (c ≡ 5) ⊎ (c ≡ 6)
+      go (inl own) = inl (not-by-map c own)
+      go (inr w) = later (w .0) (gives-parts on-pair on-room c (w .1))
 
   pub lends-enough : let r = outcome (callOf n (tableOf n lines) S T k logLent pathsLent cutLent) .refusal in (r ≡ 0) ⊎ (r ≡ 4) ⊎ (r ≡ 5) ⊎ (r ≡ 6)
   unfolding outcome
-  lends-enough = go (verdict (lentCall n S T k lines)) not-1 not-2 not-3 not-7 not-8
+  lends-enough = go (number (verdict call)) refl (ℕ-discrete (number (verdict call)) 0)
     where
-      go : (v : Verdict) → (number v ≡ 1 → ⊥) → (number v ≡ 2 → ⊥) → (number v ≡ 3 → ⊥) → (number v ≡ 7 → ⊥) → (number v ≡ 8 → ⊥)
-          → (number v ≡ 0) ⊎ (number v ≡ 4) ⊎ (number v ≡ 5) ⊎ (number v ≡ 6)
-      go Accepted a b c d e = inl refl
-      go Radios a b c d e = absurd (a refl)
-      go TableLength a b c d e = absurd (b refl)
-      go (Cell place) a b c d e = absurd (c refl)
-      go Links a b c d e = inr (inl refl)
-      go Ends a b c d e = inr (inr (inl refl))
-      go Wanted a b c d e = inr (inr (inr refl))
-      go Log a b c d e = absurd (d refl)
-      go Lists a b c d e = absurd (e refl)
+      go : (c : ℕ) → number (verdict call) ≡ c → Dec (c ≡ 0) → (c ≡ 0) ⊎ (c ≡ 4) ⊎ (c ≡ 5) ⊎ (c ≡ 6)
+      go c e (yes zero) = inl zero
+      go c e (no some) = inr (left c (given c some e))
