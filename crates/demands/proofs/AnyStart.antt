@@ -12,7 +12,7 @@ use Rattle.basics.specs.Lists.{All, InOrder}
 use Rattle.site.specs.Map.{inHalf, outHalf, A}
 use Rattle.site.specs.Paths.{DisjointPaths, Largest, Meets, Cut}
 use Rattle.tokens.specs.Rules.{Plan, Notes, State, won, carrying, over, innerStep, start}
-use Rattle.tokens.specs.Run.{Entry, Run, notesOf, runFrom, pathsOf, cutOf}
+use Rattle.tokens.specs.Run.{Entry, Run, notesOf, runFrom, pathsOf, timesLeaving, cutOf}
 use Rattle.menger.proofs.Network.{Shut}
 use Rattle.menger.proofs.Flow.{Flow}
 use Rattle.menger.proofs.Units.{one-out}
@@ -20,7 +20,7 @@ use Rattle.routes.proofs.Trails.{networkOf, pathsFrom}
 use Rattle.routes.proofs.FromFlow.{paths-disjoint, paths-number}
 use Rattle.routes.proofs.Duality.{largest-unique}
 use Rattle.routes.proofs.Cutting.{cut, cut-number, cut-in-order}
-use Rattle.routes.proofs.LeavesOnce.{timesLeaving, each-leaves-once}
+use Rattle.routes.proofs.LeavesOnce.{each-leaves-once}
 use Rattle.routes.proofs.Split.{split-of}
 use Rattle.routes.proofs.Most.{largest}
 use Rattle.rounds.proofs.Shows.{Leads}

@@ -23,7 +23,6 @@ use Rattle.menger.proofs.Network.{Shut}
 use Rattle.menger.proofs.Flow.{Flow, no-flow}
 use Rattle.routes.proofs.Trails.{networkOf}
 use Rattle.routes.proofs.Duality.{largest-unique, radiosIn, few-bytes}
-use Rattle.routes.proofs.LeavesOnce.{timesLeaving}
 use Rattle.routes.proofs.Most.{few-units}
 use Rattle.rounds.proofs.Shows.{Leads}
 use Rattle.rounds.proofs.Order.{Order}
@@ -151,6 +150,7 @@ module _ (call : Call) (accepted : outcome call .refusal ≡ 0) where
         largest = rw paths-found (d .largest);
         cut = rw paths-found (λ p. rw (cut-short p) (d .cut p));
         in-order = rw paths-found (λ p. rw (cut-short p) (d .in-order p));
+        leaves-once = rw paths-found (d .leaves-once);
         full = rw paths-found cut-full;
       }
 
@@ -192,11 +192,6 @@ module _ (call : Call) (accepted : outcome call .refusal ≡ 0) where
   -- a failed round's entered halves are closed under the steps that can be walked
   pub lost-round-shut : outcome call .paths < call .k → Shut (networkOf (call .site)) (notesOf (runOf call .last) .marks) (notesOf (runOf call .last) .entered)
   lost-round-shut = rw paths-found (d .shut)
-
-  -- each path leaves them exactly once
-  pub each-path-leaves-once : outcome call .paths < call .k → All (λ (path : List ℕ). timesLeaving (notesOf (runOf call .last) .entered) path ≡ 1) (pathsFound call)
-  unfolding pathsFound
-  each-path-leaves-once = rw paths-found (d .leaves-once)
 
   -- an out half that has DONE has one marked link step and no other
   pub one-marked-link : (h a b : ℕ) → (h ≡ outHalf (call .site .S) → ⊥) → notesOf (runOf call .last) .marks h a ≡ true → notesOf (runOf call .last) .marks h b ≡ true → a ≡ b

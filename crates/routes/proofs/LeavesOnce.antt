@@ -11,6 +11,7 @@ use Rattle.basics.proofs.Lists.{all-map}
 use Rattle.site.specs.Map.{Site, inHalf, outHalf, radioOf, isOut}
 use Rattle.site.proofs.Steps.{Step, inside, over, step-of, in-is-not-out, out-is-out, radio-of-in, radio-of-out}
 use Rattle.site.proofs.Valid.{Valid}
+use Rattle.tokens.specs.Run.{leavings, timesLeaving}
 use Rattle.menger.proofs.Network.{Marks, Shut}
 use Rattle.menger.proofs.Flow.{Flow}
 use Rattle.menger.proofs.Trail.{Back, Arrived}
@@ -19,16 +20,6 @@ use Rattle.routes.proofs.Starts.{starts-marked}
 use Rattle.routes.proofs.Radios.{radios-in, radios-out}
 use Rattle.routes.proofs.FromFlow.{whole}
 use Rattle.routes.proofs.Trails.{networkOf, radiosOf, trailOf, pathOf, starts, pathsFrom}
-
--- how often a path that is at radio u's out half, with the radios after u, leaves R
-abbrev leavings : (ℕ → Bool) → ℕ → List ℕ → ℕ
-leavings R u [] = 0
-leavings R u (v ∷ rest) = oneIf (R (outHalf u) && not (R (inHalf v))) + oneIf (R (inHalf v) && not (R (outHalf v))) + leavings R v rest
-
--- how often a path leaves R
-abbrev pub timesLeaving : (ℕ → Bool) → List ℕ → ℕ
-timesLeaving R [] = 0
-timesLeaving R (u ∷ rest) = leavings R u rest
 
 -- how often a path that is at half h, with the radios after it, leaves R
 unfoldable leavingsFrom : (ℕ → Bool) → ℕ → List ℕ → ℕ

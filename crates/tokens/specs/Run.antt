@@ -1,8 +1,9 @@
 -- A run of the token rules of document 01: its log, its rounds, the paths of rule 8, and "The cut".
-use mathlib.Core.Bool.{Bool, true, false, cond}
+use mathlib.Core.Bool.{Bool, true, false, not, _&&_, cond}
 use mathlib.Core.List.{List, [], _∷_, map}
-use Prim.Native.Nat.{ℕ, zero, suc}
+use Prim.Native.Nat.{ℕ, zero, suc, _+_}
 use lib.Dec.{eqb}
+use Rattle.basics.specs.Counting.{oneIf}
 use Rattle.site.specs.Limits.{directLink}
 use Rattle.site.specs.Map.{Site, inHalf, outHalf, radioOf, isOut}
 use Rattle.tokens.specs.declared.Kind.{Kind}
@@ -72,6 +73,20 @@ abbrev pub pathsOf : Site → List Entry → List (List ℕ)
 pathsOf site log = walked site log .paths
 
 -- ---- the cut
+
+-- a path leaves R where it goes from a half in R to one that is not
+abbrev pub leaves : Entered → ℕ → ℕ → Bool
+leaves R a b = R a && not (R b)
+
+-- how often a path does so from radio u's out half on, with the radios after u: on its way to v's in half, then inside v
+abbrev pub leavings : Entered → ℕ → List ℕ → ℕ
+leavings R u [] = 0
+leavings R u (v ∷ rest) = oneIf (leaves R (outHalf u) (inHalf v)) + oneIf (leaves R (inHalf v) (outHalf v)) + leavings R v rest
+
+-- how often a path leaves R
+abbrev pub timesLeaving : Entered → List ℕ → ℕ
+timesLeaving R [] = 0
+timesLeaving R (u ∷ rest) = leavings R u rest
 
 -- the path leaves R from u's out half to v's in half. The two tests: v is T; u is S
 abbrev pub atLink : Bool → Bool → ℕ → ℕ → ℕ
