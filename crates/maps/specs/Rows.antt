@@ -4,7 +4,7 @@ use mathlib.Core.Bool.{Bool, true, false}
 use mathlib.Core.List.{List, [], _∷_, map}
 use Prim.Native.Nat.{ℕ, _+_, _-_, _*_}
 use lib.Dec.{eqb}
-use lib.ListN.{set, replicate}
+use lib.ListN.{length, set, replicate}
 use Rattle.basics.specs.Counting.{sum, firstOf}
 use Rattle.site.specs.Map.{linked, links, exists, passes, insideStep, linkStep, step, A}
 use Rattle.refusals.specs.Refusals.{Call, callOf, bad, badAt, badCell, firstBad, finding, mapVerdict, pairVerdict, roomVerdict, verdict}
@@ -28,7 +28,9 @@ tableOf n list = withLinks n (replicate (n * n) 0) list
 -- ---- what comes of a call
 
 pub record RunResult : Type 0 where
+  pub place : ℕ
   pub full : Bool
+  pub paths : ℕ
   pub rounds : ℕ
   pub messages : ℕ
   pub pathList : List ℕ
@@ -53,7 +55,17 @@ resultOf call =
     let o = outcome call in
     elim (eqb (o .refusal) 0) [
       | true ↦
-          ran (record { full = eqb (o .paths) (call .k); rounds = o .rounds; messages = o .messages; pathList = pathsLeft call; cutList = cutLeft call; A = A (call .site) })
+          ran
+          (record {
+            place = o .place;
+            full = eqb (o .paths) (call .k);
+            paths = o .paths;
+            rounds = o .rounds;
+            messages = o .messages;
+            pathList = pathsLeft call;
+            cutList = cutLeft call;
+            A = A (call .site);
+          })
       | false ↦
           refused
           (record {
@@ -72,13 +84,24 @@ pub record MapRow : Type 0 where
   pub made : Call
   pub result : Result
 
--- n, links, S, T, k; full, the paths, rounds, messages, the cut, A. Each buffer is just long enough
+-- n, links, S, T, k; full, the paths, rounds, messages, the cut, A. The place is 0, and each buffer is just long enough
 abbrev accepts : ℕ → List (ℕ × ℕ) → ℕ → ℕ → ℕ → Bool → List (List ℕ) → ℕ → ℕ → List ℕ → ℕ → MapRow
 accepts n list S T k full paths rounds messages cut steps =
     let pathsLength = n - 2 + 3 * k in
     record {
       made = callOf n (tableOf n list) S T k (4 * ((2 * k + 1) * steps)) pathsLength k;
-      result = ran (record { full = full; rounds = rounds; messages = messages; pathList = zerosAfter pathsLength (pathBytes paths); cutList = zerosAfter k cut; A = steps });
+      result =
+          ran
+          (record {
+            place = 0;
+            full = full;
+            paths = length paths;
+            rounds = rounds;
+            messages = messages;
+            pathList = zerosAfter pathsLength (pathBytes paths);
+            cutList = zerosAfter k cut;
+            A = steps;
+          });
     }
 
 -- n, cells, S, T, k; number, place. The buffers are 12, 3 and 1 bytes long
