@@ -15,7 +15,8 @@ use Rattle.radios.proofs.Laws.{member-empty}
 use Rattle.site.specs.Map.{linked}
 use Rattle.refusals.specs.Refusals.{badAt, finding}
 use Rattle.refusals.specs.declared.Finding.the-variants.{Sound}
-use Rattle.checks.specs.Checked.{AgreeTo, Filled, joined}
+use Rattle.checks.specs.Checked.{AgreeTo, joined}
+use Rattle.radios.specs.Links.{RowsOfLinks}
 use Rattle.checks.proofs.Rows.{inRows}
 use Rattle.checks.proofs.Cells.{not-bad, linked-good, linked-apart, linked-itself, linked-outside}
 use Rattle.checks.proofs.Spreading.{swap}
@@ -132,7 +133,7 @@ module _ (table : List ℕ) (n : ℕ) (rows : List ℕ) (bits : Bits table) (m :
   pub mirrored-sound : finding table n ≡ Sound
   mirrored-sound = found-none table n (λ a b p q l. no-bad a b (omega arith) q)
 
-  pub mirrored-filled : Filled table n rows
+  pub mirrored-filled : RowsOfLinks table n rows
   mirrored-filled u v = pick (decLt u n) (decLt v n)
     where
       pick : Dec (u < n) → Dec (v < n) → inRows rows u v ≡ linked table n u v

@@ -11,12 +11,13 @@ use borrow.Author.Tests.{eq-eqb, ne-eqb, lt-ltb, le-ltb}
 use Rattle.basics.specs.Counting.{First}
 use Rattle.radios.specs.Member.{member}
 use Rattle.radios.proofs.Laws.{member-empty, member-high}
+use Rattle.site.specs.Limits.{mostRadios}
 use Rattle.checks.specs.Checked.{joined}
 
 -- the rows on the way: i has joined the rows of the set's radios below v, which is the next of them or 64
 pub record Spreading (i row : ℕ) (rows now : List ℕ) (v : ℕ) : Type 0 where
-  pub within : v ≤ 64
-  pub next : v < 64 → member v row ≡ true
+  pub within : v ≤ mostRadios
+  pub next : v < mostRadios → member v row ≡ true
   pub holds : (a b : ℕ) → member b (getD now a 0) ≡ ((eqb b i && (ltb a v && member a row)) || member b (getD rows a 0))
 
 pub swap : (p q z : Bool) → (p || (q || z)) ≡ (q || (p || z))
@@ -27,17 +28,17 @@ swap false false z = refl
 
 module _ (i row : ℕ) (rows : List ℕ) where
   -- none of the set is between two that follow each other
-  none-between : (from v : ℕ) → First (λ j. member j row) from 64 v → (a : ℕ) → from ≤ a → (ltb a v && member a row) ≡ false
+  none-between : (from v : ℕ) → First (λ j. member j row) from mostRadios v → (a : ℕ) → from ≤ a → (ltb a v && member a row) ≡ false
   none-between from v f a l = pick (decLt a v)
     where
       pick : Dec (a < v) → (ltb a v && member a row) ≡ false
       pick (yes p) = simp (f .before a l p, and-false)
       pick (no p) = simp (le-ltb a v (omega arith))
 
-  pub spread-none : (v : ℕ) → First (λ j. member j row) 0 64 v → Spreading i row rows rows v
+  pub spread-none : (v : ℕ) → First (λ j. member j row) 0 mostRadios v → Spreading i row rows rows v
   spread-none v f = record { within = f .within; next = f .found; holds = λ a b. sym (simp (none-between 0 v f a zero-le, and-false)) }
 
-  pub spread-more : (now now′ : List ℕ) (v v′ alone : ℕ) → Spreading i row rows now v → v < 64 → First (λ j. member j row) (v + 1) 64 v′
+  pub spread-more : (now now′ : List ℕ) (v v′ alone : ℕ) → Spreading i row rows now v → v < mostRadios → First (λ j. member j row) (v + 1) mostRadios v′
       → ((j : ℕ) → member j alone ≡ (eqb j i || member j 0))
       → ((a b : ℕ) → member b (getD now′ a 0) ≡ ((eqb a v && member b alone) || member b (getD now a 0))) → Spreading i row rows now′ v′
   spread-more now now′ v v′ alone s l f only widened =
@@ -62,7 +63,7 @@ module _ (i row : ℕ) (rows : List ℕ) where
       pick a b (no p) (no d) = simp (ne-eqb a v d, le-ltb a v (omega arith), none-between (v + 1) v′ f a (omega arith), and-false)
 
   pub spread-all : (before now : List ℕ) (v : ℕ) → ((a b : ℕ) → member b (getD rows a 0) ≡ ((eqb a i && member b row) || member b (getD before a 0)))
-      → Spreading i row rows now v → 64 ≤ v → row < 2 ^ 64 → (a b : ℕ) → member b (getD now a 0) ≡ joined i row before a b
+      → Spreading i row rows now v → mostRadios ≤ v → row < 2 ^ 64 → (a b : ℕ) → member b (getD now a 0) ≡ joined i row before a b
   spread-all before now v widened s l fits a b =
       s .holds a b ∙ ap₂ (λ (x y : Bool). (eqb b i && x) || y) (pick (decLt a v)) (widened a b) ∙ swap (eqb b i && member a row) (eqb a i && member b row) (member b (getD before a 0))
     where

@@ -1,155 +1,178 @@
--- The order of the refusals: what each says once those before it have not come. Assumes nothing.
-use mathlib.Core.Path.{_≡_, sym, ap, _∙_}
-use mathlib.Core.Bool.{not, _||_}
+-- What each judge says: the map's verdict once those before it have not come, and the number of steps from the rows. Assumes nothing.
+use mathlib.Core.Path.{_≡_, refl, sym, ap, _∙_}
 use mathlib.Core.Logic.{_⊎_}
 use mathlib.Core.List.{List}
-use Prim.Native.Nat.{ℕ, _+_, _*_, _≤_, _<_}
-use native.Mathlib.Nat.{mul-le-mul}
+use Prim.Native.Nat.{ℕ, _+_, _-_, _*_, _/_, _≤_, _<_}
 use native.Mathlib.Omega.{arith}
-use lib.Dec.{eqb, ltb}
 use lib.ListN.{length, getD}
 use borrow.Author.Tests.{eq-eqb, ne-eqb, lt-ltb, le-ltb}
 use Rattle.basics.specs.Counting.{oneIf, sum}
 use Rattle.basics.proofs.Bools.{tells-or, tells-below, tells-not-below, tells-equal}
 use Rattle.basics.proofs.Counting.{sum-ext}
 use Rattle.radios.specs.Member.{member}
-use Rattle.site.specs.Map.{links, degree, A}
-use Rattle.refusals.specs.Refusals.{Call, finding, refuse, verdict, logNeeds, pathsNeed, number}
+use Rattle.site.specs.Limits.{mostRadios, mostLinks, mostPaths}
+use Rattle.site.specs.Map.{Site, links, degree, A}
+use Rattle.site.proofs.Formula.{Even, degrees-twice-links, steps-and-degrees, two-degrees, few-steps}
+use Rattle.log.specs.Bytes.{messageBytes}
+use Rattle.refusals.specs.Refusals.{Call, finding, mapVerdict, pairVerdict, roomVerdict, number}
 use Rattle.refusals.specs.declared.Finding.the-variants.{Sound, Bad}
 use Rattle.refusals.specs.declared.Verdict.{Verdict}
 use Rattle.refusals.specs.declared.Verdict.the-variants.{Accepted, Radios, TableLength, Cell, Links, Ends, Wanted, Log, Lists}
-use Rattle.site.proofs.Formula.{Even, degrees-twice-links, steps-and-degrees, two-degrees, few-steps}
-use Rattle.checks.specs.Checked.{Filled, size, Countable, Judged}
+use Rattle.refusals.proofs.Exactly.{map-exact, pair-exact, told-by-map, told-by-pair, told-by-room}
+use Rattle.refusals.proofs.Accepted.{SoundMap, sound-map, GoodPair, good-pair}
+use Rattle.checks.specs.Checked.{size, Countable, mostSteps, MapJudged, Judged}
+use Rattle.radios.specs.Links.{RowsOfLinks}
+use Rattle.checks.specs.declared.MapAnswer.{MapAnswer}
 use Rattle.checks.proofs.Scan.{sound-even}
 use Rattle.checks.proofs.Sizes.{size-degree}
 
--- ---- what the checks before a refusal let pass
+-- each link is in two rows
+all-sizes : (table : List ℕ) (n : ℕ) (rows : List ℕ) → n ≤ mostRadios → RowsOfLinks table n rows → Even table n → sum (size rows) n ≡ 2 * links table n
+all-sizes table n rows most rows-are even = sum-ext (size rows) _ n (λ u l. size-degree table n rows most rows-are u) ∙ degrees-twice-links table n even
 
--- a map that refusals 1 to 3 let pass, with its rows and their total
-pub record Mapped (call : Call) (rows : List ℕ) (total : ℕ) : Type 0 where
-  pub two : 2 ≤ call .site .n
-  pub most : call .site .n ≤ 64
-  pub long : length (call .site .table) ≡ call .site .n * call .site .n
-  pub sound : finding (call .site .table) (call .site .n) ≡ Sound
-  pub filled : Filled (call .site .table) (call .site .n) rows
-  pub added : total ≡ sum (size rows) (call .site .n)
+-- ---- 1 to 4: the map's verdict at each return
 
--- ends and a number of paths that refusals 5 and 6 let pass
-pub record Wished (call : Call) : Type 0 where
-  pub source : call .site .S < call .site .n
-  pub sink : call .site .T < call .site .n
-  pub differ : call .site .S ≡ call .site .T → ⊥
-  pub some : call .k ≡ 0 → ⊥
-  pub few : call .k ≤ 8
+-- a map that 1 to 3 let pass, with its rows and their total
+pub record Mapped (table : List ℕ) (n : ℕ) (rows : List ℕ) (total : ℕ) : Type 0 where
+  pub two : 2 ≤ n
+  pub most : n ≤ mostRadios
+  pub long : length table ≡ n * n
+  pub sound : finding table n ≡ Sound
+  pub rows-are : RowsOfLinks table n rows
+  pub added : total ≡ sum (size rows) n
 
--- ---- what the rows say then
+module _ {table : List ℕ} {n : ℕ} where
+  -- a refusal promises nothing of the rows
+  refused : {rows : List ℕ} {v : Verdict} → mapVerdict table n ≡ v → (number v ≡ 0 → ⊥) → MapJudged table n rows (record { verdict = v; total = 0 })
+  refused told some = record { told = sym told; rows-are = λ e. absurd (some e); twice = λ e. absurd (some e) }
 
-module _ (call : Call) (rows : List ℕ) (total : ℕ) (m : Mapped call rows total) where
-  even : Even (call .site .table) (call .site .n)
-  even = sound-even (call .site .table) (call .site .n) (m .sound)
+  module _ {rows : List ℕ} where
+    pub told-radios : (n < 2) ⊎ (mostRadios < n) → MapJudged table n rows (record { verdict = Radios; total = 0 })
+    unfolding mapVerdict
+    told-radios h = refused (simp (tells-or _ _ (tells-below n 2) (tells-below mostRadios n) .1 h)) (λ e. omega arith)
 
-  size-is : (u : ℕ) → size rows u ≡ degree (call .site .table) (call .site .n) u
-  size-is = size-degree (call .site .table) (call .site .n) rows (m .most) (m .filled)
+    module _ (two : 2 ≤ n) (most : n ≤ mostRadios) where
+      pub told-length : (length table ≡ n * n → ⊥) → MapJudged table n rows (record { verdict = TableLength; total = 0 })
+      unfolding mapVerdict
+      told-length h = refused (simp (le-ltb _ _ two, le-ltb _ _ most, ne-eqb _ _ h)) (λ e. omega arith)
 
-  -- each link is in two rows
-  pub twice-links : total ≡ 2 * links (call .site .table) (call .site .n)
-  twice-links = m .added ∙ sum-ext (size rows) _ (call .site .n) (λ u l. size-is u) ∙ degrees-twice-links (call .site .table) (call .site .n) even
+      pub told-cell : length table ≡ n * n → (place : ℕ) → finding table n ≡ Bad place → MapJudged table n rows (record { verdict = Cell place; total = 0 })
+      unfolding mapVerdict
+      told-cell long place h = refused (simp (le-ltb _ _ two, le-ltb _ _ most, eq-eqb _ _ long, h)) (λ e. omega arith)
 
-  module _ (w : Wished call) where
-    pub countable : total ≤ 512 → Countable rows total (call .site .n) (call .site .S) (call .site .T)
-    countable fits = record {
-      two = m .two;
-      most = m .most;
-      source = w .source;
-      sink = w .sink;
-      held = omega (arith, size-is (call .site .S), size-is (call .site .T), twice-links, two-degrees (call .site) (w .source) (w .sink) (w .differ) even);
-      fits = fits;
-    }
+  module _ {rows : List ℕ} {total : ℕ} (m : Mapped table n rows total) where
+    twice : total ≡ 2 * links table n
+    twice = m .added ∙ all-sizes table n rows (m .most) (m .rows-are) (sound-even table n (m .sound))
 
+    pub told-links : mostLinks < total / 2 → MapJudged table n rows (record { verdict = Links; total = 0 })
+    unfolding mapVerdict
+    told-links many =
+        let more : mostLinks < links table n = omega (arith, twice) in
+        refused (simp (le-ltb _ _ (m .two), le-ltb _ _ (m .most), eq-eqb _ _ (m .long), m .sound, lt-ltb _ _ more)) (λ e. omega arith)
+
+    pub told-sound : total / 2 ≤ mostLinks → MapJudged table n rows (record { verdict = Accepted; total = total })
+    unfolding mapVerdict
+    told-sound few =
+        let least : links table n ≤ mostLinks = omega (arith, twice) in
+        record { told = sym (simp (le-ltb _ _ (m .two), le-ltb _ _ (m .most), eq-eqb _ _ (m .long), m .sound, le-ltb _ _ least)); rows-are = λ e. m .rows-are; twice = λ e. twice }
+
+-- ---- 5 and 6: the pair's verdict at each return
+
+module _ (n S T k : ℕ) where
+  pub told-ends : ((n ≤ S) ⊎ (n ≤ T)) ⊎ (S ≡ T) → Ends ≡ pairVerdict n S T k
+  unfolding pairVerdict
+  told-ends h = simp (tells-or _ _ (tells-or _ _ (tells-not-below S n) (tells-not-below T n)) (tells-equal S T) .1 h)
+
+  module _ (source : S < n) (sink : T < n) (differ : S ≡ T → ⊥) where
+    pub told-wanted : (k ≡ 0) ⊎ (mostPaths < k) → Wanted ≡ pairVerdict n S T k
+    unfolding pairVerdict
+    told-wanted h = simp (lt-ltb _ _ source, lt-ltb _ _ sink, ne-eqb _ _ differ, tells-or _ _ (tells-equal k 0) (tells-below mostPaths k) .1 h)
+
+    pub told-pair : (k ≡ 0 → ⊥) → k ≤ mostPaths → Accepted ≡ pairVerdict n S T k
+    unfolding pairVerdict
+    told-pair some few = simp (lt-ltb _ _ source, lt-ltb _ _ sink, ne-eqb _ _ differ, ne-eqb _ _ some, le-ltb _ _ few)
+
+-- ---- 7 and 8: the room's verdict at each return
+
+module _ (n k steps log paths cut : ℕ) where
+  pub told-log : log < messageBytes * ((2 * k + 1) * steps) → Log ≡ roomVerdict n k steps log paths cut
+  unfolding roomVerdict
+  told-log h = simp (lt-ltb _ _ h)
+
+  module _ (enough : messageBytes * ((2 * k + 1) * steps) ≤ log) where
+    pub told-lists : (paths < n - 2 + 3 * k) ⊎ (cut < k) → Lists ≡ roomVerdict n k steps log paths cut
+    unfolding roomVerdict
+    told-lists h = simp (le-ltb _ _ enough, tells-or _ _ (tells-below paths (n - 2 + 3 * k)) (tells-below cut k) .1 h)
+
+    pub told-room : n - 2 + 3 * k ≤ paths → k ≤ cut → Accepted ≡ roomVerdict n k steps log paths cut
+    unfolding roomVerdict
+    told-room p q = simp (le-ltb _ _ enough, le-ltb _ _ p, le-ltb _ _ q)
+
+-- ---- the whole call
+
+-- a call that 1 to 6 let pass, with its rows and twice its links
+pub record Passed (call : Call) (rows : List ℕ) (total : ℕ) : Type 0 where
+  pub on-map : number (mapVerdict (call .site .table) (call .site .n)) ≡ 0
+  pub on-pair : number (pairVerdict (call .site .n) (call .site .S) (call .site .T) (call .k)) ≡ 0
+  pub rows-are : RowsOfLinks (call .site .table) (call .site .n) rows
+  pub twice : total ≡ 2 * links (call .site .table) (call .site .n)
+
+module _ (call : Call) {rows : List ℕ} {answer : MapAnswer} (judged : MapJudged (call .site .table) (call .site .n) rows answer) where
+  -- 1 to 4 do not let it pass
+  pub stopped-by-map : (number (answer .verdict) ≡ 0 → ⊥) → Judged call rows (answer .verdict)
+  stopped-by-map refused = record { told = judged .told ∙ sym (told-by-map call (λ e. refused (ap number (judged .told) ∙ e))); rows-are = λ e. absurd (refused e) }
+
+  module _ (accepted : number (answer .verdict) ≡ 0) {v : Verdict} (told : v ≡ pairVerdict (call .site .n) (call .site .S) (call .site .T) (call .k)) where
+    on-map : number (mapVerdict (call .site .table) (call .site .n)) ≡ 0
+    on-map = sym (ap number (judged .told)) ∙ accepted
+
+    -- 5 and 6 do not
+    pub stopped-by-pair : (number v ≡ 0 → ⊥) → Judged call rows v
+    stopped-by-pair refused = record { told = told ∙ sym (told-by-pair call on-map (λ e. refused (ap number told ∙ e))); rows-are = λ e. absurd (refused e) }
+
+    pub passed : number v ≡ 0 → Passed call rows (answer .total)
+    passed fine = record { on-map = on-map; on-pair = sym (ap number told) ∙ fine; rows-are = judged .rows-are accepted; twice = judged .twice accepted }
+
+module _ {call : Call} {rows : List ℕ} {total : ℕ} (p : Passed call rows total) where
+  abbrev site : Site
+  site = call .site
+
+  pub the-map : SoundMap (site .table) (site .n)
+  the-map = sound-map _ _ (map-exact _ _ .law .none .0 (p .on-map))
+
+  pub the-pair : GoodPair (site .n) (site .S) (site .T) (call .k)
+  the-pair = good-pair _ _ _ _ (pair-exact {table = site .table} _ _ _ _ .law .none .0 (p .on-pair))
+
+  size-is : (u : ℕ) → size rows u ≡ degree (site .table) (site .n) u
+  size-is = size-degree (site .table) (site .n) rows (the-map .few-radios) (p .rows-are)
+
+  pub countable : Countable rows total (site .n) (site .S) (site .T)
+  countable =
+      record {
+        two = the-map .two-radios;
+        most = the-map .few-radios;
+        source = the-pair .S-below;
+        sink = the-pair .T-below;
+        held = omega (arith, size-is (site .S), size-is (site .T), p .twice, two-degrees site (the-pair .S-below) (the-pair .T-below) (the-pair .ends-differ) (the-map .even));
+        fits = omega (arith, p .twice, the-map .few-links);
+      }
+
+  module _ (a : ℕ) (counted : a + size rows (site .S) + size rows (site .T) + 2 ≡ total + oneIf (member (site .T) (getD rows (site .S) 0)) + site .n) where
     -- the count of the steps is A
-    pub is-steps : (a : ℕ) → a + size rows (call .site .S) + size rows (call .site .T) + 2 ≡ total + oneIf (member (call .site .T) (getD rows (call .site .S) 0)) + call .site .n → a ≡ A (call .site)
-    is-steps a counted = omega (
+    is-A : a ≡ A site
+    is-A = omega (
       arith,
       counted,
-      size-is (call .site .S),
-      size-is (call .site .T),
-      twice-links,
-      ap oneIf (m .filled (call .site .S) (call .site .T)),
-      steps-and-degrees (call .site) (w .source) (w .sink) (w .differ) even,
+      size-is (site .S),
+      size-is (site .T),
+      p .twice,
+      ap oneIf (p .rows-are (site .S) (site .T)),
+      steps-and-degrees site (the-pair .S-below) (the-pair .T-below) (the-pair .ends-differ) (the-map .even),
     )
 
-    -- so few that the messages can be counted
-    pub few-messages : (a : ℕ) → a ≡ A (call .site) → total ≤ 512 → (2 * call .k + 1) * a ≤ 17 * 576
-    few-messages a e fits =
-        mul-le-mul {n₂ = 17} {m₂ = 576} (omega (arith, w .few)) (omega (arith, twice-links, m .most, few-steps (call .site) (w .source) (w .sink) (w .differ) even))
+    pub steps-few : a ≤ mostSteps
+    steps-few = omega (arith, is-A, the-map .few-links, the-map .few-radios, few-steps site (the-pair .S-below) (the-pair .T-below) (the-pair .ends-differ) (the-map .even))
 
--- ---- the verdict at each return, in the order of the refusals
-
--- refusals 7 and 8 alone
-abbrev fromLog : Call → Verdict
-fromLog call =
-    refuse (ltb (call .logLength) (logNeeds (call .site) (call .k))) Log (
-    refuse (ltb (call .pathsLength) (pathsNeed (call .site) (call .k)) || ltb (call .cutLength) (call .k)) Lists
-    Accepted)
-
--- refusals 5 to 8 alone
-abbrev fromEnds : Call → Verdict
-fromEnds call =
-    let site = call .site in
-    refuse (not (ltb (site .S) (site .n)) || not (ltb (site .T) (site .n)) || eqb (site .S) (site .T)) Ends (
-    refuse (eqb (call .k) 0 || ltb 8 (call .k)) Wanted (
-    fromLog call))
-
-module _ (call : Call) where
-  pub told-radios : (call .site .n < 2) ⊎ (64 < call .site .n) → verdict call ≡ Radios
-  unfolding verdict
-  told-radios h = simp (tells-or _ _ (tells-below (call .site .n) 2) (tells-below 64 (call .site .n)) .1 h)
-
-  module _ (two : 2 ≤ call .site .n) (most : call .site .n ≤ 64) where
-    pub told-length : (length (call .site .table) ≡ call .site .n * call .site .n → ⊥) → verdict call ≡ TableLength
-    unfolding verdict
-    told-length h = simp (le-ltb _ _ two, le-ltb _ _ most, ne-eqb _ _ h)
-
-    pub told-cell : length (call .site .table) ≡ call .site .n * call .site .n → (place : ℕ) → finding (call .site .table) (call .site .n) ≡ Bad place → verdict call ≡ Cell place
-    unfolding verdict
-    told-cell long place h = simp (le-ltb _ _ two, le-ltb _ _ most, eq-eqb _ _ long, h)
-
-  module _ (rows : List ℕ) (total : ℕ) (m : Mapped call rows total) where
-    pub told-links : 256 < links (call .site .table) (call .site .n) → verdict call ≡ Links
-    unfolding verdict
-    told-links many = simp (le-ltb _ _ (m .two), le-ltb _ _ (m .most), eq-eqb _ _ (m .long), m .sound, lt-ltb _ _ many)
-
-    module _ (few : links (call .site .table) (call .site .n) ≤ 256) where
-      past-map : verdict call ≡ fromEnds call
-      unfolding verdict
-      past-map = simp (le-ltb _ _ (m .two), le-ltb _ _ (m .most), eq-eqb _ _ (m .long), m .sound, le-ltb _ _ few)
-
-      pub told-ends : ((call .site .n ≤ call .site .S) ⊎ (call .site .n ≤ call .site .T)) ⊎ (call .site .S ≡ call .site .T) → verdict call ≡ Ends
-      told-ends h =
-          past-map
-          ∙ simp (tells-or _ _ (tells-or _ _ (tells-not-below (call .site .S) (call .site .n)) (tells-not-below (call .site .T) (call .site .n))) (tells-equal (call .site .S) (call .site .T)) .1 h)
-
-      pub told-wanted : call .site .S < call .site .n → call .site .T < call .site .n → (call .site .S ≡ call .site .T → ⊥) → (call .k ≡ 0) ⊎ (8 < call .k) → verdict call ≡ Wanted
-      told-wanted source sink differ h =
-          past-map ∙ simp (lt-ltb _ _ source, lt-ltb _ _ sink, ne-eqb _ _ differ, tells-or _ _ (tells-equal (call .k) 0) (tells-below 8 (call .k)) .1 h)
-
-      module _ (w : Wished call) where
-        past-wishes : verdict call ≡ fromLog call
-        past-wishes = past-map ∙ simp (lt-ltb _ _ (w .source), lt-ltb _ _ (w .sink), ne-eqb _ _ (w .differ), ne-eqb _ _ (w .some), le-ltb _ _ (w .few))
-
-        module _ (a : ℕ) (counted : a ≡ A (call .site)) where
-          pub told-log : call .logLength < 4 * ((2 * call .k + 1) * a) → verdict call ≡ Log
-          told-log h = past-wishes ∙ simp (lt-ltb _ _ (rw counted at h))
-
-          module _ (enough : 4 * ((2 * call .k + 1) * a) ≤ call .logLength) where
-            pub told-lists : (call .pathsLength < pathsNeed (call .site) (call .k)) ⊎ (call .cutLength < call .k) → verdict call ≡ Lists
-            told-lists h =
-                past-wishes
-                ∙ simp (le-ltb _ _ (rw counted at enough), tells-or _ _ (tells-below (call .pathsLength) (pathsNeed (call .site) (call .k))) (tells-below (call .cutLength) (call .k)) .1 h)
-
-            pub told-accepted : pathsNeed (call .site) (call .k) ≤ call .pathsLength → call .k ≤ call .cutLength → verdict call ≡ Accepted
-            told-accepted p q = past-wishes ∙ simp (le-ltb _ _ (rw counted at enough), le-ltb _ _ p, le-ltb _ _ q)
-
--- a refusal promises nothing of the rows
-pub refused : {call : Call} {rows : List ℕ} {v : Verdict} → verdict call ≡ v → (number v ≡ 0 → ⊥) → Judged call rows v
-refused e d = record { told = sym e; filled = λ q. absurd (d (ap number q)) }
+    -- 7 and 8 have the last word
+    pub told-last : {v : Verdict} → v ≡ roomVerdict (site .n) (call .k) a (call .logLength) (call .pathsLength) (call .cutLength) → Judged call rows v
+    told-last told = record { told = (rw is-A at told) ∙ sym (told-by-room call (p .on-map) (p .on-pair)); rows-are = λ e. p .rows-are }

@@ -7,22 +7,19 @@ use Prim.Native.Nat.{ℕ, _+_, _*_, _≤_, _<_}
 use lib.Dec.{eqb}
 use lib.ListN.{getD}
 use Rattle.basics.specs.Counting.{count}
+use Rattle.radios.specs.Links.{RowsOfLinks}
 use Rattle.radios.specs.Member.{member}
 use Rattle.site.specs.Limits.{mostRadios, mostLinks}
-use Rattle.site.specs.Map.{linked}
-use Rattle.refusals.specs.Refusals.{Call, finding, verdict}
+use Rattle.site.specs.Map.{links}
+use Rattle.refusals.specs.Refusals.{Call, finding, mapVerdict, verdict, number}
 use Rattle.refusals.specs.declared.Finding.{Finding}
 use Rattle.refusals.specs.declared.Finding.the-variants.{Sound}
 use Rattle.refusals.specs.declared.Verdict.{Verdict}
-use Rattle.refusals.specs.declared.Verdict.the-variants.{Accepted}
+use Rattle.checks.specs.declared.MapAnswer.{MapAnswer}
 
 -- two sets have the same radios up to i
 abbrev pub AgreeTo : ℕ → ℕ → ℕ → Type 0
 AgreeTo x y i = (j : ℕ) → j ≤ i → member j x ≡ member j y
-
--- row u is the set of the radios that u is linked to
-abbrev pub Filled : List ℕ → ℕ → List ℕ → Type 0
-Filled table n rows = (u v : ℕ) → member v (getD rows u 0) ≡ linked table n u v
 
 -- how many radios are in row u
 abbrev pub size : List ℕ → ℕ → ℕ
@@ -35,12 +32,12 @@ joined i set rows u v = (eqb u i && member v set) || ((eqb v i && member u set) 
 -- the answer whether a table is sound, and the rows that it leaves where it is
 pub record Gathered (table : List ℕ) (n : ℕ) (rows : List ℕ) (sound : Bool) : Type 0 where
   pub told : sound ≡ true ↔ finding table n ≡ Sound
-  pub filled : sound ≡ true → Filled table n rows
+  pub rows-are : sound ≡ true → RowsOfLinks table n rows
 
 -- what the check of a table finds, and the rows that it leaves where it finds no fault
 pub record Checked (table : List ℕ) (n : ℕ) (rows : List ℕ) (found : Finding) : Type 0 where
   pub told : found ≡ finding table n
-  pub filled : found ≡ Sound → Filled table n rows
+  pub rows-are : found ≡ Sound → RowsOfLinks table n rows
 
 -- what the count of the steps leans on: two ends below n, and a total that holds both their rows and fits
 pub record Countable (rows : List ℕ) (total n s t : ℕ) : Type 0 where
@@ -51,7 +48,17 @@ pub record Countable (rows : List ℕ) (total n s t : ℕ) : Type 0 where
   pub held : size rows s + size rows t ≤ total
   pub fits : total ≤ 2 * mostLinks
 
+-- there are at most two steps for each link, and one inside each radio
+abbrev pub mostSteps : ℕ
+mostSteps = 2 * mostLinks + mostRadios
+
+-- what a map is told, and where it is accepted its rows and twice the number of its links
+pub record MapJudged (table : List ℕ) (n : ℕ) (rows : List ℕ) (answer : MapAnswer) : Type 0 where
+  pub told : answer .verdict ≡ mapVerdict table n
+  pub rows-are : number (answer .verdict) ≡ 0 → RowsOfLinks table n rows
+  pub twice : number (answer .verdict) ≡ 0 → answer .total ≡ 2 * links table n
+
 -- what a call is told, and the rows that it finds where it is accepted
 pub record Judged (call : Call) (rows : List ℕ) (answer : Verdict) : Type 0 where
   pub told : answer ≡ verdict call
-  pub filled : answer ≡ Accepted → Filled (call .site .table) (call .site .n) rows
+  pub rows-are : number answer ≡ 0 → RowsOfLinks (call .site .table) (call .site .n) rows

@@ -8,23 +8,14 @@ ghost use lib.ListN.{length, getD};
 ghost use Rattle.basics.specs.Counting.{oneIf, sum};
 ghost use Rattle.radios.specs.Bytes.{Bits, isOne};
 ghost use Rattle.radios.specs.Member.{member};
-ghost use Rattle.site.specs.Limits.{mostRadios};
-ghost use Rattle.refusals.specs.Refusals.{bad, finding, callOf};
-ghost use Rattle.checks.specs.Checked.{AgreeTo, joined, size, Gathered, Checked, Countable, Judged};
+ghost use Rattle.site.specs.Limits.{mostRadios, mostPaths};
+ghost use Rattle.refusals.specs.Refusals.{bad, finding, callOf, pairVerdict, roomVerdict};
+ghost use Rattle.checks.specs.Checked.{AgreeTo, joined, size, Gathered, Checked, Countable, MapJudged, mostSteps, Judged};
 use refusals::Finding;
 use refusals::Verdict;
 
-// A kit has at most so many radios: a set of them is one u64.
-const MOST_RADIOS: usize = 64;
-
-// So many links keep the log of any run below 40,000 bytes.
-const MOST_LINKS: usize = 256;
-
 // So many cells of a row are read at once.
 const AT_ONCE: usize = 8;
-
-// No sheet promises more paths than this.
-const MOST_PATHS: usize = 8;
 
 // Is the cell of row i and column j bad: not 0 or 1, or on the diagonal and not 0, or unlike its mirror cell?
 fn is_bad(i: usize, j: usize, cell: u8, mirror: u8) -> bool
@@ -44,7 +35,7 @@ fn clear(rows: &mut [u64; 64])
     ensures { λ r. ⌜ ((u : ℕ) → getD (now (rows .exit)) u 0 ≡ 0) ⌝ }
 {
     let s = &mut rows[..];
-    for u in 0..MOST_RADIOS {
+    for u in 0..site::MOST_RADIOS {
         s[u] = 0;
     }
 }
@@ -77,8 +68,8 @@ fn spread(rows: &mut [u64; 64], i: usize, row: u64)
 {
     widen(rows, i, row);
     let alone = radios::with(0, i);
-    let mut v = radios::first_from(row, 0);
-    while v < MOST_RADIOS {
+    let mut v = radios::first(row);
+    while v < site::MOST_RADIOS {
         widen(rows, v, alone);
         v = radios::first_from(row, v + 1);
     }
@@ -142,8 +133,7 @@ fn agree_to(x: u64, y: u64, i: usize) -> bool
     requires { ⌜ i < mostRadios ⌝ }
     ensures { λ r. ⌜ (r ≡ true) ↔ AgreeTo x y i ⌝ }
 {
-    radios::first_from(radios::and_not(x, y), 0) > i
-        && radios::first_from(radios::and_not(y, x), 0) > i
+    radios::first(radios::and_not(x, y)) > i && radios::first(radios::and_not(y, x)) > i
 }
 
 // Is the table sound? Then the rows are its links. The rows before row i have told radio i of its neighbours before it:
@@ -189,7 +179,7 @@ fn first_bad(table: &[u8], n: usize) -> Finding
 
 // The first bad cell in row order, where there is one; where there is none, the rows are the table's links. A sound table
 // is told so by its rows, many cells at a time: only a bad one is scanned cell by cell.
-pub fn check_table(table: &[u8], n: usize, rows: &mut [u64; 64]) -> Finding
+fn check_table(table: &[u8], n: usize, rows: &mut [u64; 64]) -> Finding
     requires { ⌜ (n ≤ mostRadios) × (length (now table) ≡ n * n) ⌝ }
     ensures { λ r. ⌜ Checked (now (table .entry)) n (now (rows .exit)) r ⌝ }
 {
@@ -200,7 +190,7 @@ pub fn check_table(table: &[u8], n: usize, rows: &mut [u64; 64]) -> Finding
 }
 
 // The sizes of the first n rows together: each link is counted at both its radios.
-pub fn total_of_rows(rows: &[u64; 64], n: usize) -> usize
+fn total_of_rows(rows: &[u64; 64], n: usize) -> usize
     requires { ⌜ n ≤ mostRadios ⌝ }
     ensures { λ r. ⌜ r ≡ sum (size (now (rows .entry))) n ⌝ }
 {
@@ -213,7 +203,7 @@ pub fn total_of_rows(rows: &[u64; 64], n: usize) -> usize
 
 // A, the number of steps, from the rows and their total. Left out are the steps into S and those out of T; where S and T
 // are linked, the one from T to S is among both, so it is added back.
-pub fn steps(rows: &[u64; 64], total: usize, n: usize, s: usize, t: usize) -> usize
+fn steps(rows: &[u64; 64], total: usize, n: usize, s: usize, t: usize) -> usize
     requires { ⌜ Countable (now rows) total n s t ⌝ }
     ensures { λ r. ⌜ r + size (now (rows .entry)) s + size (now (rows .entry)) t + 2 ≡ total + oneIf (member t (getD (now (rows .entry)) s 0)) + n ⌝ }
 {
@@ -222,6 +212,76 @@ pub fn steps(rows: &[u64; 64], total: usize, n: usize, s: usize, t: usize) -> us
         return others + 1;
     }
     others
+}
+
+// What the checks of a map answer: the verdict on refusals 1 to 4, and for an accepted map twice the number of its links.
+pub struct MapAnswer {
+    verdict: Verdict,
+    total: usize,
+}
+
+// Refusals 1 to 4. An accepted map finds its links in the rows; after a refusal they hold what the checks left there.
+pub fn judge_map(n: usize, table: &[u8], rows: &mut [u64; 64]) -> MapAnswer
+    ensures { λ r. ⌜ MapJudged (now (table .entry)) n (now (rows .exit)) r ⌝ }
+{
+    if n < 2 || n > site::MOST_RADIOS {
+        return MapAnswer {
+            verdict: Verdict::Radios,
+            total: 0,
+        };
+    }
+    if table.len() != n * n {
+        return MapAnswer {
+            verdict: Verdict::TableLength,
+            total: 0,
+        };
+    }
+    if let Finding::Bad(cell) = check_table(table, n, rows) {
+        return MapAnswer {
+            verdict: Verdict::Cell(cell),
+            total: 0,
+        };
+    }
+    let total = total_of_rows(rows, n);
+    if total / 2 > site::MOST_LINKS {
+        return MapAnswer {
+            verdict: Verdict::Links,
+            total: 0,
+        };
+    }
+    MapAnswer {
+        verdict: Verdict::Accepted,
+        total,
+    }
+}
+
+// Refusals 5 and 6: the two ends among n radios, and the number of paths wanted.
+pub fn judge_pair(n: usize, s: usize, t: usize, k: usize) -> Verdict
+    ensures { λ r. ⌜ r ≡ pairVerdict n s t k ⌝ }
+{
+    if s >= n || t >= n || s == t {
+        return Verdict::Ends;
+    }
+    if k == 0 || k > site::MOST_PATHS {
+        return Verdict::Wanted;
+    }
+    Verdict::Accepted
+}
+
+// Refusals 7 and 8: the lengths of the lent buffers, for k paths among n radios over so many steps.
+pub fn judge_room(n: usize, k: usize, steps: usize, log: usize, paths: usize, cut: usize) -> Verdict
+    requires { ⌜ (2 ≤ n) × (n ≤ mostRadios) ⌝ }
+    requires { ⌜ (k ≤ mostPaths) × (steps ≤ mostSteps) ⌝ }
+    ensures { λ r. ⌜ r ≡ roomVerdict n k steps log paths cut ⌝ }
+{
+    let most_messages = (2 * k + 1) * steps;
+    if log < log::MESSAGE_BYTES * most_messages {
+        return Verdict::Log;
+    }
+    if paths < n - 2 + 3 * k || cut < k {
+        return Verdict::Lists;
+    }
+    Verdict::Accepted
 }
 
 // What a call is told before any token is sent: refusals 1 to 8 in this order. log, paths and cut are the lengths of
@@ -239,31 +299,15 @@ pub fn judge(
 ) -> Verdict
     ensures { λ r. ⌜ Judged (callOf n (now (table .entry)) s t k log paths cut) (now (rows .exit)) r ⌝ }
 {
-    if n < 2 || n > MOST_RADIOS {
-        return Verdict::Radios;
+    let map = judge_map(n, table, rows);
+    let on_map = map.verdict;
+    if refusals::number_of(on_map) != 0 {
+        return on_map;
     }
-    if table.len() != n * n {
-        return Verdict::TableLength;
+    let on_pair = judge_pair(n, s, t, k);
+    if refusals::number_of(on_pair) != 0 {
+        return on_pair;
     }
-    if let Finding::Bad(cell) = check_table(table, n, rows) {
-        return Verdict::Cell(cell);
-    }
-    let total = total_of_rows(rows, n);
-    if total / 2 > MOST_LINKS {
-        return Verdict::Links;
-    }
-    if s >= n || t >= n || s == t {
-        return Verdict::Ends;
-    }
-    if k == 0 || k > MOST_PATHS {
-        return Verdict::Wanted;
-    }
-    let most_messages = (2 * k + 1) * steps(rows, total, n, s, t);
-    if log < log::MESSAGE_BYTES * most_messages {
-        return Verdict::Log;
-    }
-    if paths < n - 2 + 3 * k || cut < k {
-        return Verdict::Lists;
-    }
-    Verdict::Accepted
+    let a = steps(rows, map.total, n, s, t);
+    judge_room(n, k, a, log, paths, cut)
 }

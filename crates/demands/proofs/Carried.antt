@@ -14,7 +14,7 @@ use Rattle.basics.specs.Lists.{All}
 use Rattle.site.specs.Map.{Site, inHalf, outHalf, isOut}
 use Rattle.tokens.specs.declared.Kind.the-variants.{Done}
 use Rattle.tokens.specs.declared.Message.{Message}
-use Rattle.tokens.specs.Rules.{Marks, Notes, State, carrying, sends, over, message, nextMarked, passOn, release, carry, innerStep}
+use Rattle.tokens.specs.Rules.{Marks, Plan, Notes, State, carrying, sends, over, message, nextMarked, passOn, release, carry, innerStep}
 use Rattle.tokens.specs.Run.{Entry}
 use Rattle.menger.proofs.Trail.{follow}
 use Rattle.routes.proofs.Trails.{onward, trailOf, passing, starts}
@@ -22,9 +22,9 @@ use Rattle.rounds.proofs.Shows.{Leads, inRound}
 
 -- ---- two logs, one after the other
 
-pub leads-on : (site : Site) (k : ℕ) (state middle end : State) (log later : List Entry) → Leads site k state log middle → Leads site k middle later end → Leads site k state (log ++ later) end
-leads-on site k state middle end [] later first second = rw first second
-leads-on site k state middle end (entry ∷ log) later first second = (first .0, first .1, first .2, leads-on site k (first .0) middle end log later (first .3) second)
+pub leads-on : (plan : Plan) (state middle end : State) (log later : List Entry) → Leads plan state log middle → Leads plan middle later end → Leads plan state (log ++ later) end
+leads-on plan state middle end [] later first second = rw first second
+leads-on plan state middle end (entry ∷ log) later first second = (first .0, first .1, first .2, leads-on plan (first .0) middle end log later (first .3) second)
 
 pub in-round-append : (round : ℕ) (log later : List Message) → inRound round (log ++ later) ≡ inRound round log ++ inRound round later
 in-round-append round [] later = refl
@@ -91,77 +91,77 @@ standsAt [] = 0
 standsAt (h ∷ trail) = h
 
 -- S has sent DONE to each of these radios, and the run is over
-pub record AllCarried (site : Site) (k : ℕ) (notes : Notes) (state : State) (radios : List ℕ) : Type 0 where
+pub record AllCarried (plan : Plan) (notes : Notes) (state : State) (radios : List ℕ) : Type 0 where
   pub end : State
-  pub leads : Leads site k state (inRound (notes .round) (donesOf site (notes .marks) radios)) end
-  pub ends : innerStep site k end ≡ over
+  pub leads : Leads plan state (inRound (notes .round) (donesOf (plan .site) (notes .marks) radios)) end
+  pub ends : innerStep plan end ≡ over
   -- the last DONE has come to T
-  pub at-T : ((radios ≡ []) × (end ≡ state)) ⊎ ((v : ℕ) × (end ≡ carrying v (inHalf (site .T)) notes))
+  pub at-T : ((radios ≡ []) × (end ≡ state)) ⊎ ((v : ℕ) × (end ≡ carrying v (inHalf (plan .site .T)) notes))
 
 -- ---- what is known where DONE is carried: the marked steps go on to T
 
-module _ (site : Site) (k : ℕ) (notes : Notes)
-    (below : (h v : ℕ) → notes .marks h (inHalf v) ≡ true → v < site .n)
-    (on : (a h : ℕ) → notes .marks a h ≡ true → (h ≡ inHalf (site .T) → ⊥) → notes .marks h (onward site (notes .marks) h) ≡ true)
-    (arrive : (v : ℕ) → notes .marks (outHalf (site .S)) (inHalf v) ≡ true → standsAt (trailOf site (notes .marks) v) ≡ inHalf (site .T)) where
+module _ (plan : Plan) (notes : Notes)
+    (below : (h v : ℕ) → notes .marks h (inHalf v) ≡ true → v < plan .site .n)
+    (on : (a h : ℕ) → notes .marks a h ≡ true → (h ≡ inHalf (plan .site .T) → ⊥) → notes .marks h (onward (plan .site) (notes .marks) h) ≡ true)
+    (arrive : (v : ℕ) → notes .marks (outHalf (plan .site .S)) (inHalf v) ≡ true → standsAt (trailOf (plan .site) (notes .marks) v) ≡ inHalf (plan .site .T)) where
   -- one passing of DONE
-  pass : (v h : ℕ) → eqb h (inHalf (site .T)) ≡ false → notes .marks h (onward site (notes .marks) h) ≡ true
-      → innerStep site k (carrying v h notes) ≡ sends (message Done h (onward site (notes .marks) h)) (carrying v (onward site (notes .marks) h) notes)
+  pass : (v h : ℕ) → eqb h (inHalf (plan .site .T)) ≡ false → notes .marks h (onward (plan .site) (notes .marks) h) ≡ true
+      → innerStep plan (carrying v h notes) ≡ sends (message Done h (onward (plan .site) (notes .marks) h)) (carrying v (onward (plan .site) (notes .marks) h) notes)
   unfolding innerStep carry passOn onward
   pass v h not-T marked = rw not-T (go (isOut h) marked)
     where
-      go : (b : Bool) → notes .marks h (cond b (inHalf (nextMarked site (notes .marks) h 0)) (h + 1)) ≡ true
-          → carry false b site v h notes ≡ sends (message Done h (cond b (inHalf (nextMarked site (notes .marks) h 0)) (h + 1))) (carrying v (cond b (inHalf (nextMarked site (notes .marks) h 0)) (h + 1)) notes)
-      go true m = rw (lt-ltb (nextMarked site (notes .marks) h 0) (site .n) (below h (nextMarked site (notes .marks) h 0) m))
+      go : (b : Bool) → notes .marks h (cond b (inHalf (nextMarked (plan .site) (notes .marks) h 0)) (h + 1)) ≡ true
+          → carry false b (plan .site) v h notes ≡ sends (message Done h (cond b (inHalf (nextMarked (plan .site) (notes .marks) h 0)) (h + 1))) (carrying v (cond b (inHalf (nextMarked (plan .site) (notes .marks) h 0)) (h + 1)) notes)
+      go true m = rw (lt-ltb (nextMarked (plan .site) (notes .marks) h 0) (plan .site .n) (below h (nextMarked (plan .site) (notes .marks) h 0) m))
       go false m = refl
 
   -- DONE is carried along a trail to its end
-  along : (v times h : ℕ) (trail : List ℕ) → (a : ℕ) → notes .marks a h ≡ true → standsAt (follow (inHalf (site .T)) (onward site (notes .marks)) times (h ∷ trail)) ≡ inHalf (site .T)
-      → Leads site k (carrying v h notes) (inRound (notes .round) (donesFrom site (notes .marks) times h)) (carrying v (inHalf (site .T)) notes)
+  along : (v times h : ℕ) (trail : List ℕ) → (a : ℕ) → notes .marks a h ≡ true → standsAt (follow (inHalf (plan .site .T)) (onward (plan .site) (notes .marks)) times (h ∷ trail)) ≡ inHalf (plan .site .T)
+      → Leads plan (carrying v h notes) (inRound (notes .round) (donesFrom (plan .site) (notes .marks) times h)) (carrying v (inHalf (plan .site .T)) notes)
   unfolding follow donesFrom
   along v zero h trail a led ends = ap (λ (x : ℕ). carrying v x notes) ends
-  along v (suc times) h trail a led ends = go (eqb h (inHalf (site .T))) refl ends (along v times (onward site (notes .marks) h) (h ∷ trail) h)
+  along v (suc times) h trail a led ends = go (eqb h (inHalf (plan .site .T))) refl ends (along v times (onward (plan .site) (notes .marks) h) (h ∷ trail) h)
     where
       next : ℕ
-      next = onward site (notes .marks) h
+      next = onward (plan .site) (notes .marks) h
 
-      go : (b : Bool) → eqb h (inHalf (site .T)) ≡ b
-          → standsAt (cond b (h ∷ trail) (follow (inHalf (site .T)) (onward site (notes .marks)) times (onward site (notes .marks) h ∷ h ∷ trail))) ≡ inHalf (site .T)
-          → (notes .marks h (onward site (notes .marks) h) ≡ true → standsAt (follow (inHalf (site .T)) (onward site (notes .marks)) times (onward site (notes .marks) h ∷ h ∷ trail)) ≡ inHalf (site .T)
-          → Leads site k (carrying v (onward site (notes .marks) h) notes) (inRound (notes .round) (donesFrom site (notes .marks) times (onward site (notes .marks) h))) (carrying v (inHalf (site .T)) notes))
-          → Leads site k (carrying v h notes) (inRound (notes .round) (cond b [] (message Done h (onward site (notes .marks) h) ∷ donesFrom site (notes .marks) times (onward site (notes .marks) h)))) (carrying v (inHalf (site .T)) notes)
+      go : (b : Bool) → eqb h (inHalf (plan .site .T)) ≡ b
+          → standsAt (cond b (h ∷ trail) (follow (inHalf (plan .site .T)) (onward (plan .site) (notes .marks)) times (onward (plan .site) (notes .marks) h ∷ h ∷ trail))) ≡ inHalf (plan .site .T)
+          → (notes .marks h (onward (plan .site) (notes .marks) h) ≡ true → standsAt (follow (inHalf (plan .site .T)) (onward (plan .site) (notes .marks)) times (onward (plan .site) (notes .marks) h ∷ h ∷ trail)) ≡ inHalf (plan .site .T)
+          → Leads plan (carrying v (onward (plan .site) (notes .marks) h) notes) (inRound (notes .round) (donesFrom (plan .site) (notes .marks) times (onward (plan .site) (notes .marks) h))) (carrying v (inHalf (plan .site .T)) notes))
+          → Leads plan (carrying v h notes) (inRound (notes .round) (cond b [] (message Done h (onward (plan .site) (notes .marks) h) ∷ donesFrom (plan .site) (notes .marks) times (onward (plan .site) (notes .marks) h)))) (carrying v (inHalf (plan .site .T)) notes)
       go true e at ih = ap (λ (x : ℕ). carrying v x notes) at
       go false e at ih =
-          let marked = on a h led (eqb-false h (inHalf (site .T)) e) in
-          (carrying v (onward site (notes .marks) h) notes, pass v h e marked, refl, ih marked at)
+          let marked = on a h led (eqb-false h (inHalf (plan .site .T)) e) in
+          (carrying v (onward (plan .site) (notes .marks) h) notes, pass v h e marked, refl, ih marked at)
 
   -- ---- all trails
 
   marked : ℕ → Bool
-  marked v = notes .marks (outHalf (site .S)) (inHalf v)
+  marked v = notes .marks (outHalf (plan .site .S)) (inHalf v)
 
   -- at T the next DONE leaves
-  at-T : (v : ℕ) → innerStep site k (carrying v (inHalf (site .T)) notes) ≡ release site (suc v) notes
+  at-T : (v : ℕ) → innerStep plan (carrying v (inHalf (plan .site .T)) notes) ≡ release (plan .site) (suc v) notes
   unfolding innerStep carry
-  at-T v = rw (eq-eqb (inHalf (site .T)) (inHalf (site .T)) refl)
+  at-T v = rw (eq-eqb (inHalf (plan .site .T)) (inHalf (plan .site .T)) refl)
 
   -- S goes through the radios from v on, of which f are left
-  from : (f v : ℕ) (state : State) → v + f ≡ site .n → innerStep site k state ≡ release site v notes → AllCarried site k notes state (passing marked v f)
+  from : (f v : ℕ) (state : State) → v + f ≡ plan .site .n → innerStep plan state ≡ release (plan .site) v notes → AllCarried plan notes state (passing marked v f)
   unfolding passing release passOn donesOf marked trailOf
   from zero v state e next = record { end = state; leads = refl; ends = next ∙ none; at-T = inl (refl, refl) }
     where
-      none : release site v notes ≡ over
-      none = rw (next-none site (notes .marks) (outHalf (site .S)) v (omega arith), le-ltb v (site .n) (omega arith))
+      none : release (plan .site) v notes ≡ over
+      none = rw (next-none (plan .site) (notes .marks) (outHalf (plan .site .S)) v (omega arith), le-ltb v (plan .site .n) (omega arith))
   from (suc f) v state e next = go (marked v) refl (λ state′. from f (suc v) state′ (omega arith))
     where
-      go : (b : Bool) → marked v ≡ b → ((state′ : State) → innerStep site k state′ ≡ release site (suc v) notes → AllCarried site k notes state′ (passing marked (suc v) f))
-          → AllCarried site k notes state (cond b (v ∷ passing marked (suc v) f) (passing marked (suc v) f))
-      go true m ih = one (ih (carrying v (inHalf (site .T)) notes) (at-T v))
+      go : (b : Bool) → marked v ≡ b → ((state′ : State) → innerStep plan state′ ≡ release (plan .site) (suc v) notes → AllCarried plan notes state′ (passing marked (suc v) f))
+          → AllCarried plan notes state (cond b (v ∷ passing marked (suc v) f) (passing marked (suc v) f))
+      go true m ih = one (ih (carrying v (inHalf (plan .site .T)) notes) (at-T v))
         where
-          sent : innerStep site k state ≡ sends (message Done (outHalf (site .S)) (inHalf v)) (carrying v (inHalf v) notes)
-          sent = next ∙ rw (next-here site (notes .marks) (outHalf (site .S)) v (omega arith) m, lt-ltb v (site .n) (omega arith))
+          sent : innerStep plan state ≡ sends (message Done (outHalf (plan .site .S)) (inHalf v)) (carrying v (inHalf v) notes)
+          sent = next ∙ rw (next-here (plan .site) (notes .marks) (outHalf (plan .site .S)) v (omega arith) m, lt-ltb v (plan .site .n) (omega arith))
 
-          one : AllCarried site k notes (carrying v (inHalf (site .T)) notes) (passing marked (suc v) f) → AllCarried site k notes state (v ∷ passing marked (suc v) f)
+          one : AllCarried plan notes (carrying v (inHalf (plan .site .T)) notes) (passing marked (suc v) f) → AllCarried plan notes state (v ∷ passing marked (suc v) f)
           one rest =
               record {
                 end = rest .end;
@@ -169,19 +169,19 @@ module _ (site : Site) (k : ℕ) (notes : Notes)
                   carrying v (inHalf v) notes,
                   sent,
                   refl,
-                  rw (in-round-append (notes .round) (donesFrom site (notes .marks) (2 * site .n) (inHalf v)) (donesOf site (notes .marks) (passing marked (suc v) f)))
-                      (leads-on site k (carrying v (inHalf v) notes) (carrying v (inHalf (site .T)) notes) (rest .end) (inRound (notes .round) (donesFrom site (notes .marks) (2 * site .n) (inHalf v))) (inRound (notes .round) (donesOf site (notes .marks) (passing marked (suc v) f))) (along v (2 * site .n) (inHalf v) (outHalf (site .S) ∷ []) (outHalf (site .S)) m (arrive v m)) (rest .leads)),
+                  rw (in-round-append (notes .round) (donesFrom (plan .site) (notes .marks) (2 * plan .site .n) (inHalf v)) (donesOf (plan .site) (notes .marks) (passing marked (suc v) f)))
+                      (leads-on plan (carrying v (inHalf v) notes) (carrying v (inHalf (plan .site .T)) notes) (rest .end) (inRound (notes .round) (donesFrom (plan .site) (notes .marks) (2 * plan .site .n) (inHalf v))) (inRound (notes .round) (donesOf (plan .site) (notes .marks) (passing marked (suc v) f))) (along v (2 * plan .site .n) (inHalf v) (outHalf (plan .site .S) ∷ []) (outHalf (plan .site .S)) m (arrive v m)) (rest .leads)),
                 );
                 ends = rest .ends;
                 at-T = inr (arrived (rest .at-T));
               }
             where
-              arrived : ((passing marked (suc v) f ≡ []) × (rest .end ≡ carrying v (inHalf (site .T)) notes)) ⊎ ((w : ℕ) × (rest .end ≡ carrying w (inHalf (site .T)) notes)) → (w : ℕ) × (rest .end ≡ carrying w (inHalf (site .T)) notes)
+              arrived : ((passing marked (suc v) f ≡ []) × (rest .end ≡ carrying v (inHalf (plan .site .T)) notes)) ⊎ ((w : ℕ) × (rest .end ≡ carrying w (inHalf (plan .site .T)) notes)) → (w : ℕ) × (rest .end ≡ carrying w (inHalf (plan .site .T)) notes)
               arrived (inl w) = (v, w .1)
               arrived (inr w) = w
-      go false m ih = ih state (next ∙ rw (next-further site (notes .marks) (outHalf (site .S)) v (omega arith) m))
+      go false m ih = ih state (next ∙ rw (next-further (plan .site) (notes .marks) (outHalf (plan .site .S)) v (omega arith) m))
 
   -- S goes through all radios
-  pub all-carried : (state : State) → innerStep site k state ≡ release site 0 notes → AllCarried site k notes state (starts site (notes .marks))
+  pub all-carried : (state : State) → innerStep plan state ≡ release (plan .site) 0 notes → AllCarried plan notes state (starts (plan .site) (notes .marks))
   unfolding starts marked
-  all-carried state next = from (site .n) 0 state (omega arith) next
+  all-carried state next = from (plan .site .n) 0 state (omega arith) next

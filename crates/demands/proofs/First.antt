@@ -7,7 +7,7 @@ use lib.ListN.{replicate}
 use native.Mathlib.Nat.{sub-zero}
 use borrow.Author.Tests.{ne-eqb}
 use Rattle.refusals.specs.Refusals.{Call, verdict, number}
-use Rattle.refusals.proofs.Exactly as exactly
+use Rattle.refusals.proofs.Exactly.{call-exact, no-place}
 use Rattle.outcome.specs.Leaves.{outcome, logLeft, pathsLeft, cutLeft}
 use Rattle.buffers.specs.Zeros.{zerosAfter}
 use Rattle.demands.specs.Demand1.{NothingLeft, Demand1}
@@ -32,10 +32,5 @@ nothing-left call refused =
 pub demand-1 : (call : Call) → Demand1 call
 unfolding outcome
 demand-1 call =
-    record {
-      refused = exactly.refused-exactly call;
-      accepted = exactly.accepted-exactly call;
-      place-of-3 = exactly.place-of-3 call;
-      no-place = exactly.no-place (verdict call);
-      nothing-left = nothing-left call;
-    }
+    let exact = call-exact call in
+    record { refused = exact .law .given; accepted = exact .law .none; place-of-3 = exact .place-of-3; no-place = no-place (verdict call); nothing-left = nothing-left call }

@@ -5,5 +5,6 @@ pub mod Tokens
 pub mod Opening
 pub mod Rounds
 pub mod Whole
+pub mod AnyStart
 pub mod First
 pub mod Demands

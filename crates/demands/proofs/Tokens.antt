@@ -129,8 +129,8 @@ opening-of-round zero round log = refl
 opening-of-round (suc i) round [] = refl
 opening-of-round (suc i) round (m ∷ log) = ap (λ (rest : List Entry). record { message = m; round = round } ∷ rest) (opening-of-round i round log)
 
--- the DONE messages of the last round
-dones-orderly : (site : Site) (first round : ℕ) (log : List Message) → first ≤ round → All (λ (m : Message). m .kind ≡ Done) log → Orderly site first (inRound round log)
+-- the DONE messages of the last round, or none
+pub dones-orderly : (site : Site) (first round : ℕ) (log : List Message) → first ≤ round → All (λ (m : Message). m .kind ≡ Done) log → Orderly site first (inRound round log)
 dones-orderly site first round log later all =
     record {
       none-earlier = λ kinds other a b p. in-another-round kinds round other a b log (λ e. omega arith);
@@ -209,24 +209,26 @@ module _ {site : Site} {first : ℕ} {log later : List Entry} (now : Orderly sit
         ));
       }
 
+-- rounds numbered from a later one on are numbered from this one on
+sooner : {site : Site} {first later : ℕ} {log : List Entry} → first ≤ later → Orderly site later log → Orderly site first log
+sooner p o = record {
+  none-earlier = λ kinds other a b q. o .none-earlier kinds other a b (omega arith);
+  over-steps = o .over-steps;
+  once = o .once;
+  one-reply = o .one-reply;
+  none-before = o .none-before;
+}
+
 -- a round's messages before those of later rounds
 pub later-rounds : (site : Site) (round : ℕ) (log : List Message) (later : List Entry) → Orderly site round (inRound round log) → Orderly site (suc round) later → Orderly site round (inRound round log ++ later)
-later-rounds site round log later now then = orderly-append now sooner (λ other a b. apart other a b (decLt round other))
+later-rounds site round log later now then = orderly-append now (sooner (omega arith) then) (λ other a b. apart other a b (decLt round other))
   where
-    sooner : Orderly site round later
-    sooner = record {
-      none-earlier = λ kinds other a b p. then .none-earlier kinds other a b (omega arith);
-      over-steps = then .over-steps;
-      once = then .once;
-      one-reply = then .one-reply;
-      none-before = then .none-before;
-    }
-
     apart : (other a b : ℕ) → Dec (round < other)
         → ((tokensIn other a b (inRound round log) ≡ 0) × (tokensIn other b a (inRound round log) ≡ 0)) ⊎ ((tokensIn other a b later ≡ 0) × (tokensIn other b a later ≡ 0))
     apart other a b (yes p) = inl (in-another-round isToken round other a b log (λ e. omega arith), in-another-round isToken round other b a log (λ e. omega arith))
     apart other a b (no p) = inr (then .none-earlier isToken other a b (omega arith), then .none-earlier isToken other b a (omega arith))
 
--- the DONE messages after all rounds
-pub then-dones : (site : Site) (first round : ℕ) (log : List Entry) (dones : List Message) → first ≤ round → Orderly site first log → All (λ (m : Message). m .kind ≡ Done) dones → Orderly site first (log ++ inRound round dones)
-then-dones site first round log dones later now all = orderly-append now (dones-orderly site first round dones later all) (λ other a b. inr (no-dones isToken refl round other a b dones all, no-dones isToken refl round other b a dones all))
+-- the DONE messages after all rounds. Where no round was played theirs is 0
+pub then-dones : (site : Site) (first round : ℕ) (log : List Entry) (dones : List Message) → Orderly site first log → All (λ (m : Message). m .kind ≡ Done) dones → Orderly site 0 (log ++ inRound round dones)
+then-dones site first round log dones now all =
+    orderly-append (sooner (omega arith) now) (dones-orderly site 0 round dones (omega arith) all) (λ other a b. inr (no-dones isToken refl round other a b dones all, no-dones isToken refl round other b a dones all))

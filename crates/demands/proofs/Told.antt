@@ -13,6 +13,7 @@ use Rattle.tokens.specs.declared.Kind.{Kind}
 use Rattle.tokens.specs.declared.Kind.the-variants.{Pdt, PdtB, Pmt, Done}
 use Rattle.tokens.specs.declared.Message.{Message}
 use Rattle.tokens.specs.Rules.{Marks, message}
+use Rattle.log.specs.Last.{DonesLast}
 use Rattle.tokens.specs.Run.{Entry, doneOver, heard, walked}
 use Rattle.menger.proofs.Trail.{follow}
 use Rattle.routes.proofs.Trails.{onward, trailOf, radiosOf, pathOf}
@@ -41,10 +42,6 @@ silent site (e ∷ log) none later = go (e .message .kind) (none .0) (silent sit
     go PdtB other ih = ih
     go Pmt other ih = ih
     go Done other ih = absurd (other refl)
-
--- after a DONE come only DONEs
-abbrev pub DonesLast : List Entry → Type 0
-DonesLast log = AnyTwo (λ (a b : Entry). a .message .kind ≡ Done → b .message .kind ≡ Done) log
 
 -- another message asks nothing of those after it
 no-done-first : (e : Entry) → (e .message .kind ≡ Done → ⊥) → (log : List Entry) → All (λ (b : Entry). e .message .kind ≡ Done → b .message .kind ≡ Done) log

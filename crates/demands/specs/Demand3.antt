@@ -14,8 +14,8 @@ use Rattle.tokens.specs.declared.Kind.{Kind}
 use Rattle.tokens.specs.declared.Kind.the-variants.{Pdt, PdtB, Pmt, Done}
 use Rattle.tokens.specs.Rules.{over, innerStep}
 use Rattle.tokens.specs.Run.{Entry}
-use Rattle.outcome.specs.Leaves.{runOf, pathsFound, cutFound, outcome}
-use Rattle.log.specs.Bytes.{logBytes}
+use Rattle.outcome.specs.Leaves.{planOf, runOf, pathsFound, cutFound, outcome}
+use Rattle.log.specs.Bytes.{messageBytes, logBytes}
 use Rattle.path_lists.specs.Bytes.{pathBytes}
 
 -- a discovery token, and the two replies to one
@@ -49,8 +49,8 @@ pub record Demand3 (call : Call) : Type 0 where
   pub one-largest : (M M′ : ℕ) → Largest (call .site) M → Largest (call .site) M′ → M ≡ M′
   -- with M that number the rounds are min(k, M+1), failed ones included
   pub rounds : (M : ℕ) → Largest (call .site) M → outcome call .rounds ≡ min (call .k) (M + 1)
-  -- messages are exactly the log's, four bytes each
-  pub messages : length (logBytes (runOf call .log)) ≡ 4 * outcome call .messages
+  -- messages are exactly the log's, each of as many bytes
+  pub messages : length (logBytes (runOf call .log)) ≡ messageBytes * outcome call .messages
   -- discovery tokens go over steps of the map, and no round sends one twice over a step, in either direction
   pub over-steps : (round a b : ℕ) → 0 < tokensIn round a b (runOf call .log) → (step (call .site) a b ≡ true) ⊎ (step (call .site) b a ≡ true)
   pub once : (round a b : ℕ) → tokensIn round a b (runOf call .log) + tokensIn round b a (runOf call .log) ≤ 1
@@ -60,7 +60,7 @@ pub record Demand3 (call : Call) : Type 0 where
   -- with r the rounds, all messages together are at most (2r+1)·A
   pub bound : outcome call .messages ≤ (2 * outcome call .rounds + 1) * A (call .site)
   -- the run ends by itself, and what it leaves fits the buffers
-  pub ends : innerStep (call .site) (call .k) (runOf call .last) ≡ over
+  pub ends : innerStep (planOf call) (runOf call .last) ≡ over
   pub log-fits : length (logBytes (runOf call .log)) ≤ call .logLength
   pub paths-fit : length (pathBytes (pathsFound call)) ≤ call .pathsLength
   pub cut-fits : length (cutFound call) ≤ call .cutLength

@@ -2,41 +2,37 @@
 use mathlib.Core.Path.{_≡_}
 use mathlib.Core.Bool.{Bool, true, false}
 use mathlib.Core.List.{List}
-use Prim.Native.Nat.{ℕ}
+use Prim.Native.Nat.{ℕ, zero, suc}
 use lib.ListN.{getD}
-use Rattle.radios.specs.Member.{member}
-use Rattle.site.specs.Map.{Site, linked}
-use Rattle.tokens.specs.Rules.{Notes, Waiting, State, searching, declining, granting, won, carrying, Next, sends, over}
+use Rattle.site.specs.Map.{Site, radioOf}
+use Rattle.tokens.specs.Rules.{Notes, Waiting, nobody, waits, State, searching, declining, granting, won, carrying, Next, sends, over}
 use Rattle.tokens.specs.declared.Answer.{Answer}
 use Rattle.tokens.specs.declared.Answer.the-variants.{Sent, End}
-pub use Rattle.halves.specs.Bytes.{enteredOf, waitingOf}
-pub use Rattle.marks.specs.Rows.{likeAStep, marksOf, Mirrors}
-use Rattle.machine.specs.declared.Task.{Task}
+pub use Rattle.halves.specs.Bytes.{enteredOf}
+pub use Rattle.openings.specs.Rows.{marksOf, placeOf}
 use Rattle.machine.specs.declared.Stage.{Stage}
 use Rattle.machine.specs.declared.Stage.the-variants.{Searching, Declining, Granting, Won, Carrying}
 use Rattle.machine.specs.declared.Machine.{Machine}
 
--- ---- the map
+-- the place after the one at which half h has asked half x
+abbrev pub tried : Site → ℕ → ℕ → ℕ
+tried site h x = suc (placeOf site h (radioOf x))
 
--- the rows of links are those of the site, and the numbers are its own
-pub record Shows (site : Site) (task : Task) (links : List ℕ) : Type 0 where
-  pub radios : site .n ≡ task .n
-  pub source : site .S ≡ task .s
-  pub sink : site .T ≡ task .t
-  pub rows : (u v : ℕ) → member v (getD links u 0) ≡ linked (site .table) (site .n) u v
+-- so many halves that wait below half h, each for the one above it
+abbrev pub waitingOf : Site → List ℕ → ℕ → ℕ → Waiting
+waitingOf site halves zero h = nobody
+waitingOf site halves (suc depth) h = waits (getD halves depth 0) (tried site (getD halves depth 0) h) (waitingOf site halves depth (getD halves depth 0))
 
--- ---- all together
+abbrev pub notesIn : Site → Machine → List ℕ → List ℕ → Notes
+notesIn site machine rows entered = record { round = machine .round; found = machine .found; marks = marksOf site rows; entered = enteredOf entered }
 
-abbrev pub notesIn : Machine → List ℕ → List ℕ → Notes
-notesIn machine marks entered = record { round = machine .round; found = machine .found; marks = marksOf marks; entered = enteredOf entered }
-
--- by the stage, with the half that owes a reply or that DONE has come to, and the radio that S sent DONE to
+-- by the stage, with the half that owes a reply, or the radio that S sent DONE to and the half that it has come to
 abbrev pub stateIn : Stage → ℕ → ℕ → Notes → Waiting → State
-stateIn Searching half radio notes waiting = searching notes waiting
-stateIn Declining half radio notes waiting = declining half notes waiting
-stateIn Granting half radio notes waiting = granting half notes waiting
-stateIn Won half radio notes waiting = won notes
-stateIn Carrying half radio notes waiting = carrying radio half notes
+stateIn Searching half other notes waiting = searching notes waiting
+stateIn Declining half other notes waiting = declining other notes waiting
+stateIn Granting half other notes waiting = granting other notes waiting
+stateIn Won half other notes waiting = won notes
+stateIn Carrying half other notes waiting = carrying other half notes
 
 abbrev pub isWon : Stage → Bool
 isWon Searching = false
@@ -45,8 +41,12 @@ isWon Granting = false
 isWon Won = true
 isWon Carrying = false
 
-abbrev pub stateOf : Machine → List ℕ → List ℕ → List ℕ → List ℕ → State
-stateOf machine marks entered halves places = stateIn (machine .stage) (machine .half) (machine .radio) (notesIn machine marks entered) (waitingOf halves places (machine .depth))
+-- the half on top, which has tried all places before this one, and those below it
+abbrev pub stackOf : Site → ℕ → Machine → List ℕ → Waiting
+stackOf site place machine halves = waits (machine .half) place (waitingOf site halves (machine .depth) (machine .half))
+
+abbrev pub stateOf : Site → ℕ → Machine → List ℕ → List ℕ → List ℕ → State
+stateOf site place machine rows entered halves = stateIn (machine .stage) (machine .half) (machine .other) (notesIn site machine rows entered) (stackOf site place machine halves)
 
 -- the definition's word for an answer: a message and the state after it, or the end
 abbrev pub nextOf : Answer → State → Next

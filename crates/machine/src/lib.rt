@@ -5,11 +5,11 @@ ghost use mathlib.Core.List.{List};
 ghost use Prim.Native.Nat.{ℕ, suc, _+_, _*_, _≤_, _<_};
 ghost use lib.Dec.{eqb};
 ghost use Rattle.site.specs.Limits.{mostRadios};
-ghost use Rattle.site.specs.Map.{Site, inHalf};
-ghost use Rattle.tokens.specs.Rules.{searching, carrying, gets, tries, passOn, release, decline};
-ghost use Rattle.machine.specs.View.{isWon, enteredOf, waitingOf, notesIn, stateOf, nextOf};
-ghost use Rattle.machine.specs.Parts.{Sends, Grants, Granted, Stands, Answers, Rounds};
-ghost use Rattle.machine.specs.Step.{Ready, Told};
+ghost use Rattle.site.specs.Map.{Site};
+ghost use Rattle.tokens.specs.Rules.{Plan, waits, passOn, release};
+ghost use Rattle.openings.specs.Rows.{Open, Untried};
+ghost use Rattle.machine.specs.View.{isWon, marksOf, enteredOf, tried, waitingOf, notesIn, stateOf, nextOf};
+ghost use Rattle.machine.specs.Step.{Fits, Made, TopUntried, Agrees, Ready, Steps, Received, Rounds};
 use tokens::Answer;
 use tokens::Kind;
 use tokens::Message;
@@ -31,12 +31,14 @@ pub enum Stage {
     Carrying,
 }
 
-// Where the machine stands: the stage, the half that owes a reply or that DONE has come to, the radio that S sent DONE to,
-// how many halves wait, the rounds started and the paths found. A stage without such a half or radio may hold any number there.
+// Where the machine stands: the half on top, the half that owes it a reply, the radios that it has not tried, how many halves
+// wait below it, the rounds started and the paths found. Carrying: the half that DONE has come to, and the radio that S sent
+// it to.
 pub struct Machine {
     pub stage: Stage,
     pub half: usize,
-    pub radio: usize,
+    pub other: usize,
+    pub left: u64,
     pub depth: usize,
     pub round: usize,
     pub found: usize,
@@ -55,32 +57,41 @@ fn wide(byte: u8) -> usize
     byte as usize
 }
 
-// The machine at another stage, where this half owes a reply and so many halves wait.
-fn moved(machine: Machine, stage: Stage, half: usize, depth: usize) -> Machine
-    ensures { λ r. ⌜ r ≡ record { stage = stage; half = half; radio = machine .radio; depth = depth; round = machine .round; found = machine .found } ⌝ }
+// The machine at another stage.
+fn moved(
+    machine: Machine,
+    stage: Stage,
+    half: usize,
+    other: usize,
+    left: u64,
+    depth: usize,
+) -> Machine
+    ensures { λ r. ⌜ r ≡ record { stage = stage; half = half; other = other; left = left; depth = depth; round = machine .round; found = machine .found } ⌝ }
 {
     Machine {
         stage,
         half,
-        radio: machine.radio,
+        other,
+        left,
         depth,
         round: machine.round,
         found: machine.found,
     }
 }
 
-// The machine once the DONE that S sent to this radio has come to this half.
-fn carried(machine: Machine, radio: usize, half: usize) -> Machine
-    ensures { λ r. ⌜ r ≡ record { stage = Stage.Carrying; half = half; radio = radio; depth = 0; round = machine .round; found = machine .found } ⌝ }
+// The same machine, whose half on top has this left.
+pub fn with_left(machine: Machine, left: u64) -> Machine
+    ensures { λ r. ⌜ r ≡ record { stage = machine .stage; half = machine .half; other = machine .other; left = left; depth = machine .depth; round = machine .round; found = machine .found } ⌝ }
 {
-    Machine {
-        stage: Stage::Carrying,
-        half,
-        radio,
-        depth: 0,
-        round: machine.round,
-        found: machine.found,
-    }
+    let stage = machine.stage;
+    moved(
+        machine,
+        stage,
+        machine.half,
+        machine.other,
+        left,
+        machine.depth,
+    )
 }
 
 // A message is sent, and the machine stands there once it is delivered.
@@ -93,15 +104,29 @@ fn sent(kind: Kind, from: usize, to: usize, machine: Machine) -> Stepped
     }
 }
 
+// Half h waits above the first so many.
+fn push(halves: &mut [u8; 128], depth: usize, h: usize)
+    requires { ⌜ (depth < 2 * mostRadios) × (h < 2 * mostRadios) ⌝ }
+    ensures { λ r. ⌜ ((site : Site) (y : ℕ) → waitingOf site (now (halves .exit)) (depth + 1) y ≡ waits h (tried site h y) (waitingOf site (now (halves .entry)) depth h)) ⌝ }
+{
+    let s = &mut halves[..];
+    s[depth] = h as u8;
+}
+
 // ---- rule 7: DONE
 
 // Half h passes DONE over its marked step to radio w, where w is a radio. S sent it to radio v.
 fn pass_on(n: usize, machine: Machine, h: usize, v: usize, w: usize) -> Stepped
     requires { ⌜ n ≤ mostRadios ⌝ }
-    ensures { λ r. ⌜ ((site : Site) (marks entered halves places : List ℕ) → site .n ≡ n → passOn site h v w (notesIn machine marks entered) ≡ nextOf (r .answer) (stateOf (r .machine) marks entered halves places)) ⌝ }
+    ensures { λ r. ⌜ ((site : Site) (place : ℕ) (rows entered halves : List ℕ) → site .n ≡ n → TopUntried site place machine rows → Agrees site (passOn site h v w (notesIn site machine rows entered)) r rows entered halves) ⌝ }
 {
     if w < n {
-        return sent(Kind::Done, h, 2 * w, carried(machine, v, 2 * w));
+        return sent(
+            Kind::Done,
+            h,
+            2 * w,
+            moved(machine, Stage::Carrying, 2 * w, v, machine.left, 0),
+        );
     }
     Stepped {
         answer: Answer::End,
@@ -110,167 +135,187 @@ fn pass_on(n: usize, machine: Machine, h: usize, v: usize, w: usize) -> Stepped
 }
 
 // S sends DONE to the first radio from v on that has a marked step from S; where there is none, all is done.
-fn releases(task: Task, machine: Machine, marks: &[u64; 64], v: usize) -> Stepped
-    requires { ⌜ (task .n ≤ mostRadios) × (task .s < task .n) × (v ≤ task .n) ⌝ }
-    ensures { λ r. ⌜ ((site : Site) (entered halves places : List ℕ) → site .n ≡ task .n → site .S ≡ task .s → release site v (notesIn machine (now (marks .entry)) entered) ≡ nextOf (r .answer) (stateOf (r .machine) (now (marks .entry)) entered halves places)) ⌝ }
+fn releases(task: Task, machine: Machine, links: &[u64; 64], rows: &[u64; 128], v: usize) -> Stepped
+    requires { ⌜ Fits task × (v ≤ task .n) ⌝ }
+    ensures { λ r. ⌜ ((plan : Plan) (place : ℕ) (entered halves : List ℕ) → Made plan task (now (links .entry)) → Open (plan .site) (marksOf (plan .site) (now (rows .entry))) (now (rows .entry)) → TopUntried (plan .site) place machine (now (rows .entry)) → Agrees (plan .site) (release (plan .site) v (notesIn (plan .site) machine (now (rows .entry)) entered)) r (now (rows .entry)) entered halves) ⌝ }
 {
-    let w = marks::next_marked(task.n, marks, task.s, v);
+    let w = openings::next_marked(task.n, task.s, links, rows, task.s, v);
     pass_on(task.n, machine, 2 * task.s + 1, w, w)
 }
 
-// DONE is at half h: T's in half is the end of a path, an in half passes it on within its radio, an out half over its marked step.
-fn carries(task: Task, machine: Machine, marks: &[u64; 64], v: usize, h: usize) -> Stepped
-    requires { ⌜ (task .n ≤ mostRadios) × (task .s < task .n) × (task .t < task .n) × (v < task .n) × (h < 2 * task .n) ⌝ }
-    ensures { λ r. ⌜ ((links entered halves places : List ℕ) → Answers task links (carrying v h (notesIn machine (now (marks .entry)) entered)) (r .answer) (stateOf (r .machine) (now (marks .entry)) entered halves places)) ⌝ }
+// DONE has come to a half: T's in half is the end of a path, an in half passes it on within its radio, an out half over its
+// marked step.
+fn carries(task: Task, machine: Machine, links: &[u64; 64], rows: &[u64; 128]) -> Stepped
+    requires { ⌜ (machine .stage ≡ Stage.Carrying) × ((plan : Plan) × (place : ℕ) × (entered : List ℕ) × (halves : List ℕ) × Ready plan place task machine (now links) (now rows) entered halves) ⌝ }
+    ensures { λ r. ⌜ ((entered halves : List ℕ) → Steps task machine (now (links .entry)) (now (rows .entry)) entered halves r (now (rows .entry)) entered halves) ⌝ }
 {
+    let h = machine.half;
+    let v = machine.other;
     if h == 2 * task.t {
-        return releases(task, machine, marks, v + 1);
+        return releases(task, machine, links, rows, v + 1);
     }
     if h % 2 == 1 {
-        let w = marks::next_marked(task.n, marks, h / 2, 0);
+        let w = openings::next_marked(task.n, task.s, links, rows, h / 2, 0);
         return pass_on(task.n, machine, h, v, w);
     }
-    sent(Kind::Done, h, h + 1, carried(machine, v, h + 1))
+    sent(
+        Kind::Done,
+        h,
+        h + 1,
+        moved(machine, Stage::Carrying, h + 1, v, machine.left, 0),
+    )
 }
 
 // ---- rules 3 to 6, one function to a stage
 
-// Half `to` gets a PDT from the half on top: T's in half owes PMT, one that was entered before owes PDT_B, any other searches.
+// Half y gets a PDT from the half on top: T's in half owes PMT, one that was entered before owes PDT_B, any other searches.
 fn receives(
     task: Task,
     machine: Machine,
-    to: usize,
+    y: usize,
+    left: u64,
+    rows: &[u64; 128],
     entered: &mut [u8; 128],
     halves: &mut [u8; 128],
-    places: &mut [u8; 128],
 ) -> Machine
-    requires { ⌜ (task .t < mostRadios) × (to < 2 * mostRadios) × (enteredOf (now entered) to ≡ false → machine .depth < 2 * mostRadios) ⌝ }
-    ensures { λ r. ⌜ ((marks : List ℕ) → gets (eqb to (inHalf (task .t))) (enteredOf (now (entered .entry)) to) to (notesIn machine marks (now (entered .entry))) (waitingOf (now (halves .entry)) (now (places .entry)) (machine .depth)) ≡ stateOf r marks (now (entered .exit)) (now (halves .exit)) (now (places .exit))) ⌝ }
+    requires { ⌜ (task .t < mostRadios) × (y < 2 * mostRadios) × (machine .half < 2 * mostRadios) × (machine .depth < 2 * mostRadios) ⌝ }
+    ensures { λ r. ⌜ ((site : Site) → site .T ≡ task .t → Open site (marksOf site (now (rows .entry))) (now (rows .entry)) → Untried site (marksOf site (now (rows .entry))) (machine .half) (tried site (machine .half) y) left → Received site machine y (now (rows .entry)) (now (entered .entry)) (now (halves .entry)) r (now (entered .exit)) (now (halves .exit))) ⌝ }
 {
-    if to == 2 * task.t {
-        halves::enter(entered, to);
-        return moved(machine, Stage::Granting, to, machine.depth);
+    if y == 2 * task.t {
+        halves::enter(entered, y);
+        return moved(
+            machine,
+            Stage::Granting,
+            machine.half,
+            y,
+            left,
+            machine.depth,
+        );
     }
-    if halves::is_entered(entered, to) {
-        return moved(machine, Stage::Declining, to, machine.depth);
+    if halves::is_entered(entered, y) {
+        return moved(
+            machine,
+            Stage::Declining,
+            machine.half,
+            y,
+            left,
+            machine.depth,
+        );
     }
-    halves::enter(entered, to);
-    halves::push(halves, places, machine.depth, to);
-    moved(machine, Stage::Searching, to, machine.depth + 1)
+    halves::enter(entered, y);
+    push(halves, machine.depth, machine.half);
+    moved(machine, Stage::Searching, y, y, rows[y], machine.depth + 1)
 }
 
-// The half on top, h, sends a PDT to what stands at this place of its order.
-fn sends_on(
+// The half on top has nothing left to try: it replies PDT_B to the half that asked it, or is S, whose round has failed.
+fn gives_up(
     task: Task,
     machine: Machine,
-    h: usize,
-    place: usize,
-    entered: &mut [u8; 128],
-    halves: &mut [u8; 128],
-    places: &mut [u8; 128],
+    links: &[u64; 64],
+    rows: &[u64; 128],
+    halves: &[u8; 128],
 ) -> Stepped
-    requires { ⌜ Sends task machine h place (now entered) (now halves) ⌝ }
-    ensures { λ r. ⌜ ((site : Site) (marks : List ℕ) (top : ℕ) → site .n ≡ task .n → site .T ≡ task .t → machine .depth ≡ suc top → tries true site h place (notesIn machine marks (now (entered .entry))) (waitingOf (now (halves .entry)) (now (places .entry)) top) ≡ nextOf (r .answer) (stateOf (r .machine) marks (now (entered .exit)) (now (halves .exit)) (now (places .exit)))) ⌝ }
+    requires { ⌜ (machine .stage ≡ Stage.Searching) × (machine .left ≡ 0) × ((plan : Plan) × (place : ℕ) × (entered : List ℕ) × Ready plan place task machine (now links) (now rows) entered (now halves)) ⌝ }
+    ensures { λ r. ⌜ ((entered : List ℕ) → Steps task machine (now (links .entry)) (now (rows .entry)) entered (now (halves .entry)) r (now (rows .entry)) entered (now (halves .entry))) ⌝ }
 {
-    let to = marks::half_at(task.n, h, place);
-    halves::go_on_at(halves, places, machine.depth - 1, place + 1);
+    if machine.depth == 0 {
+        return releases(task, machine, links, rows, 0);
+    }
+    let h = machine.half;
+    let below = machine.depth - 1;
+    let asker = wide(halves[below]);
+    let left = openings::after(rows[asker], asker, h / 2);
     sent(
-        Kind::Pdt,
+        Kind::PdtB,
         h,
-        to,
-        receives(task, machine, to, entered, halves, places),
+        asker,
+        moved(machine, Stage::Searching, asker, h, left, below),
     )
 }
 
-// The half on top sends its next PDT; with nothing left to try it replies PDT_B, or is S, whose round has failed.
+// The half on top asks the next that it can.
 fn searches(
     task: Task,
     machine: Machine,
     links: &[u64; 64],
-    marks: &[u64; 64],
-    into: &[u64; 64],
+    rows: &[u64; 128],
     entered: &mut [u8; 128],
     halves: &mut [u8; 128],
-    places: &mut [u8; 128],
 ) -> Stepped
-    requires { ⌜ Stands task (now links) (now marks) (now into) (searching (notesIn machine (now marks) (now entered)) (waitingOf (now halves) (now places) (machine .depth))) ⌝ }
-    ensures { λ r. ⌜ Answers task (now (links .entry)) (searching (notesIn machine (now (marks .entry)) (now (entered .entry))) (waitingOf (now (halves .entry)) (now (places .entry)) (machine .depth))) (r .answer) (stateOf (r .machine) (now (marks .entry)) (now (entered .exit)) (now (halves .exit)) (now (places .exit))) ⌝ }
+    requires { ⌜ (machine .stage ≡ Stage.Searching) × ((plan : Plan) × (place : ℕ) × Ready plan place task machine (now links) (now rows) (now entered) (now halves)) ⌝ }
+    ensures { λ r. ⌜ Steps task machine (now (links .entry)) (now (rows .entry)) (now (entered .entry)) (now (halves .entry)) r (now (rows .entry)) (now (entered .exit)) (now (halves .exit)) ⌝ }
     ensures { λ r. ⌜ (r .answer ≡ Answer.End → enteredOf (now (entered .exit)) ≡ enteredOf (now (entered .entry))) ⌝ }
 {
-    let top = machine.depth - 1;
-    let h = wide(halves[top]);
-    let place = marks::next_place(
-        task.n,
-        task.s,
-        task.t,
-        links,
-        marks,
-        into,
-        h,
-        wide(places[top]),
-    );
-    if place <= task.n {
-        return sends_on(task, machine, h, place, entered, halves, places);
+    if radios::is_empty(machine.left) {
+        return gives_up(task, machine, links, rows, halves);
     }
-    if top == 0 {
-        return releases(task, machine, marks, 0);
-    }
-    let asker = wide(halves[top - 1]);
+    let h = machine.half;
+    let v = openings::next(machine.left, h);
+    let y = openings::half_across(h, v);
+    let left = radios::without(machine.left, v);
     sent(
-        Kind::PdtB,
+        Kind::Pdt,
         h,
-        asker,
-        moved(machine, Stage::Searching, h, top),
-    )
-}
-
-// Half y, which was entered before, replies PDT_B to the half on top.
-fn declines(machine: Machine, halves: &[u8; 128], y: usize) -> Stepped
-    requires { ⌜ (0 < machine .depth) × (machine .depth ≤ 2 * mostRadios) ⌝ }
-    ensures { λ r. ⌜ ((marks entered places : List ℕ) → decline y (notesIn machine marks entered) (waitingOf (now (halves .entry)) places (machine .depth)) ≡ nextOf (r .answer) (stateOf (r .machine) marks entered (now (halves .entry)) places)) ⌝ }
-{
-    let top = machine.depth - 1;
-    let asker = wide(halves[top]);
-    sent(
-        Kind::PdtB,
         y,
-        asker,
-        moved(machine, Stage::Searching, y, machine.depth),
+        receives(task, machine, y, left, rows, entered, halves),
     )
 }
 
-// Half y replies PMT to the half on top, which reverses their step's mark and owes PMT in its turn, or is S, whose round is won.
-fn grants(
-    machine: Machine,
-    marks: &mut [u64; 64],
-    into: &mut [u64; 64],
-    halves: &[u8; 128],
-    y: usize,
-) -> Stepped
-    requires { ⌜ Grants machine y (now halves) ⌝ }
-    ensures { λ r. ⌜ Granted machine y (now (marks .entry)) (now (into .entry)) (now (halves .entry)) r (now (marks .exit)) (now (into .exit)) ⌝ }
+// The half that was asked, and entered before, replies PDT_B to the half on top.
+fn declines(machine: Machine) -> Stepped
+    requires { ⌜ machine .stage ≡ Stage.Declining ⌝ }
+    ensures { λ r. ⌜ ((task : Task) (links rows entered halves : List ℕ) → Steps task machine links rows entered halves r rows entered halves) ⌝ }
 {
-    let top = machine.depth - 1;
-    let h = wide(halves[top]);
-    marks::reverse(marks, into, h, y);
-    if top == 0 {
+    sent(
+        Kind::PdtB,
+        machine.other,
+        machine.half,
+        moved(
+            machine,
+            Stage::Searching,
+            machine.half,
+            machine.other,
+            machine.left,
+            machine.depth,
+        ),
+    )
+}
+
+// The half that was asked replies PMT to the half on top, which reverses their step's mark and owes PMT in its turn, or is S,
+// whose round is won.
+fn grants(machine: Machine, rows: &mut [u64; 128], halves: &[u8; 128]) -> Stepped
+    requires { ⌜ (machine .stage ≡ Stage.Granting) × ((plan : Plan) × (place : ℕ) × (task : Task) × (links : List ℕ) × (entered : List ℕ) × Ready plan place task machine links (now rows) entered (now halves)) ⌝ }
+    ensures { λ r. ⌜ ((task : Task) (links entered : List ℕ) → Steps task machine links (now (rows .entry)) entered (now (halves .entry)) r (now (rows .exit)) entered (now (halves .entry))) ⌝ }
+{
+    let h = machine.half;
+    let y = machine.other;
+    openings::turn(rows, h, y);
+    if machine.depth == 0 {
         let won = Machine {
             stage: Stage::Won,
             half: h,
-            radio: machine.radio,
+            other: y,
+            left: machine.left,
             depth: 0,
             round: machine.round,
             found: machine.found + 1,
         };
         return sent(Kind::Pmt, y, h, won);
     }
-    sent(Kind::Pmt, y, h, moved(machine, Stage::Granting, h, top))
+    let below = machine.depth - 1;
+    let asker = wide(halves[below]);
+    sent(
+        Kind::Pmt,
+        y,
+        h,
+        moved(machine, Stage::Granting, asker, h, machine.left, below),
+    )
 }
 
 // ---- rule 1
 
 // Is a round won?
-pub fn is_won(stage: Stage) -> bool
+fn is_won(stage: Stage) -> bool
     ensures { λ r. ⌜ r ≡ isWon stage ⌝ }
 {
     match stage {
@@ -282,49 +327,29 @@ pub fn is_won(stage: Stage) -> bool
     }
 }
 
-// A round is won: the next one begins while fewer than k paths are found.
-fn begins(
-    task: Task,
-    machine: Machine,
-    entered: &mut [u8; 128],
-    halves: &mut [u8; 128],
-    places: &mut [u8; 128],
-) -> Machine
-    requires { ⌜ (task .s < mostRadios) × (machine .stage ≡ Stage.Won) × (machine .round ≡ machine .found) ⌝ }
-    ensures { λ r. ⌜ Rounds task machine (now (entered .entry)) (now (halves .entry)) (now (places .entry)) r (now (entered .exit)) (now (halves .exit)) (now (places .exit)) ⌝ }
+// Where a round is won and fewer than k paths are found, the next one begins. At every other stage nothing happens.
+fn next_round(task: Task, machine: Machine, rows: &[u64; 128], entered: &mut [u8; 128]) -> Machine
+    requires { ⌜ (task .s < mostRadios) × (machine .stage ≡ Stage.Won → machine .round ≤ machine .found) ⌝ }
+    ensures { λ r. ⌜ ((links halves : List ℕ) → Rounds task machine links (now (rows .entry)) (now (entered .entry)) halves r (now (entered .exit))) ⌝ }
 {
+    let stage = machine.stage;
+    if !is_won(stage) {
+        return machine;
+    }
     if machine.found >= task.k {
         return machine;
     }
     let source = 2 * task.s + 1;
     halves::enter_only(entered, source);
-    halves::push(halves, places, 0, source);
     Machine {
         stage: Stage::Searching,
         half: source,
-        radio: machine.radio,
-        depth: 1,
+        other: source,
+        left: rows[source],
+        depth: 0,
         round: machine.round + 1,
         found: machine.found,
     }
-}
-
-// Where a round is won and another is due, that one begins. At every other stage nothing happens.
-fn next_round(
-    task: Task,
-    machine: Machine,
-    entered: &mut [u8; 128],
-    halves: &mut [u8; 128],
-    places: &mut [u8; 128],
-) -> Machine
-    requires { ⌜ (task .s < mostRadios) × (machine .stage ≡ Stage.Won → machine .round ≡ machine .found) ⌝ }
-    ensures { λ r. ⌜ Rounds task machine (now (entered .entry)) (now (halves .entry)) (now (places .entry)) r (now (entered .exit)) (now (halves .exit)) (now (places .exit)) ⌝ }
-{
-    let stage = machine.stage;
-    if is_won(stage) {
-        return begins(task, machine, entered, halves, places);
-    }
-    machine
 }
 
 // One inner step: the message that the rules send next, or the end of the run, and where the machine stands after it.
@@ -334,23 +359,21 @@ pub fn step(
     task: Task,
     machine: Machine,
     links: &[u64; 64],
-    marks: &mut [u64; 64],
-    into: &mut [u64; 64],
+    rows: &mut [u64; 128],
     entered: &mut [u8; 128],
     halves: &mut [u8; 128],
-    places: &mut [u8; 128],
 ) -> Stepped
-    requires { ⌜ Ready task machine (now links) (now marks) (now into) (now entered) (now halves) (now places) ⌝ }
-    ensures { λ r. ⌜ Told task (now (links .entry)) (stateOf machine (now (marks .entry)) (now (entered .entry)) (now (halves .entry)) (now (places .entry))) r (now (marks .exit)) (now (into .exit)) (now (entered .exit)) (now (halves .exit)) (now (places .exit)) ⌝ }
+    requires { ⌜ ((plan : Plan) × (place : ℕ) × Ready plan place task machine (now links) (now rows) (now entered) (now halves)) ⌝ }
+    ensures { λ r. ⌜ Steps task machine (now (links .entry)) (now (rows .entry)) (now (entered .entry)) (now (halves .entry)) r (now (rows .exit)) (now (entered .exit)) (now (halves .exit)) ⌝ }
     ensures { λ r. ⌜ (r .answer ≡ Answer.End → isWon (machine .stage) ≡ false → enteredOf (now (entered .exit)) ≡ enteredOf (now (entered .entry))) ⌝ }
 {
-    let current = next_round(task, machine, entered, halves, places);
+    let current = next_round(task, machine, rows, entered);
     let stage = current.stage;
     match stage {
-        Stage::Searching => searches(task, current, links, marks, into, entered, halves, places),
-        Stage::Declining => declines(current, halves, current.half),
-        Stage::Granting => grants(current, marks, into, halves, current.half),
-        Stage::Won => releases(task, current, marks, 0),
-        Stage::Carrying => carries(task, current, marks, current.radio, current.half),
+        Stage::Searching => searches(task, current, links, rows, entered, halves),
+        Stage::Declining => declines(current),
+        Stage::Granting => grants(current, rows, halves),
+        Stage::Won => releases(task, current, links, rows, 0),
+        Stage::Carrying => carries(task, current, links, rows),
     }
 }

@@ -7,8 +7,8 @@ use lib.Dec.{eqb}
 use lib.ListN.{set, replicate}
 use Rattle.basics.specs.Counting.{sum, firstOf}
 use Rattle.site.specs.Map.{linked, links, exists, passes, insideStep, linkStep, step, A}
-use Rattle.refusals.specs.Refusals.{Call, callOf, bad, badAt, badCell, firstBad, finding, verdict}
-use Rattle.tokens.specs.Rules.{mayWalk, candidate, canTry, nextPlace, gets, nextMarked, passOn, release, carry, tries, search, reversed, grant, decline, goOn, innerStep}
+use Rattle.refusals.specs.Refusals.{Call, callOf, bad, badAt, badCell, firstBad, finding, mapVerdict, pairVerdict, roomVerdict, verdict}
+use Rattle.tokens.specs.Rules.{mayWalk, candidate, canTry, nextPlace, gets, nextMarked, passOn, release, carry, tries, search, reversed, grant, decline, goOn, innerStep, start}
 use Rattle.tokens.specs.Run.{runOn, walked, cutItem, itemOf}
 use Rattle.outcome.specs.declared.Outcome.{Outcome}
 use Rattle.outcome.specs.Leaves.{runOf, pathsFound, cutFound, outcome, logLeft, pathsLeft, cutLeft}
@@ -25,9 +25,9 @@ withLinks n table (l ∷ rest) = withLinks n (set (set table (l .0 * n + l .1) 1
 abbrev tableOf : ℕ → List (ℕ × ℕ) → List ℕ
 tableOf n list = withLinks n (replicate (n * n) 0) list
 
--- ---- what is told of a call
+-- ---- what comes of a call
 
-pub record Ran : Type 0 where
+pub record RunResult : Type 0 where
   pub full : Bool
   pub rounds : ℕ
   pub messages : ℕ
@@ -35,7 +35,7 @@ pub record Ran : Type 0 where
   pub cutList : List ℕ
   pub A : ℕ
 
-pub record Refused : Type 0 where
+pub record RefusalResult : Type 0 where
   pub number : ℕ
   pub place : ℕ
   pub counts : List ℕ
@@ -43,13 +43,13 @@ pub record Refused : Type 0 where
   pub pathList : List ℕ
   pub cutList : List ℕ
 
-pub data Told : Type 0 where
-  ran : Ran → Told
-  refused : Refused → Told
+pub data Result : Type 0 where
+  ran : RunResult → Result
+  refused : RefusalResult → Result
 
 -- by the definitions
-abbrev toldOf : Call → Told
-toldOf call =
+abbrev resultOf : Call → Result
+resultOf call =
     let o = outcome call in
     elim (eqb (o .refusal) 0) [
       | true ↦
@@ -68,25 +68,25 @@ toldOf call =
 
 -- ---- the table's rows
 
-pub record Row : Type 0 where
+pub record MapRow : Type 0 where
   pub made : Call
-  pub told : Told
+  pub result : Result
 
 -- n, links, S, T, k; full, the paths, rounds, messages, the cut, A. Each buffer is just long enough
-abbrev accepts : ℕ → List (ℕ × ℕ) → ℕ → ℕ → ℕ → Bool → List (List ℕ) → ℕ → ℕ → List ℕ → ℕ → Row
+abbrev accepts : ℕ → List (ℕ × ℕ) → ℕ → ℕ → ℕ → Bool → List (List ℕ) → ℕ → ℕ → List ℕ → ℕ → MapRow
 accepts n list S T k full paths rounds messages cut steps =
     let pathsLength = n - 2 + 3 * k in
     record {
       made = callOf n (tableOf n list) S T k (4 * ((2 * k + 1) * steps)) pathsLength k;
-      told = ran (record { full = full; rounds = rounds; messages = messages; pathList = zerosAfter pathsLength (pathBytes paths); cutList = zerosAfter k cut; A = steps });
+      result = ran (record { full = full; rounds = rounds; messages = messages; pathList = zerosAfter pathsLength (pathBytes paths); cutList = zerosAfter k cut; A = steps });
     }
 
 -- n, cells, S, T, k; number, place. The buffers are 12, 3 and 1 bytes long
-abbrev refuses : ℕ → List ℕ → ℕ → ℕ → ℕ → ℕ → ℕ → Row
+abbrev refuses : ℕ → List ℕ → ℕ → ℕ → ℕ → ℕ → ℕ → MapRow
 refuses n table S T k number place =
     record {
       made = callOf n table S T k 12 3 1;
-      told =
+      result =
           refused
           (record { number = number; place = place; counts = 0 ∷ 0 ∷ 0 ∷ []; log = replicate 12 0; pathList = replicate 3 0; cutList = replicate 1 0 });
     }
@@ -94,7 +94,7 @@ refuses n table S T k number place =
 abbrev Q : List (ℕ × ℕ)
 Q = (0, 1) ∷ (0, 4) ∷ (1, 2) ∷ (1, 6) ∷ (2, 3) ∷ (2, 5) ∷ (3, 4) ∷ (3, 7) ∷ (6, 7) ∷ []
 
-abbrev rows : List Row
+abbrev rows : List MapRow
 rows =
     accepts 2 ((0, 1) ∷ []) 0 1 1 true ((0 ∷ 1 ∷ []) ∷ []) 1 3 [] 1
     ∷ accepts 2 ((0, 1) ∷ []) 0 1 2 false ((0 ∷ 1 ∷ []) ∷ []) 2 3 (255 ∷ []) 1
@@ -109,8 +109,8 @@ rows =
     ∷ []
 
 -- every row of the table is what the definitions say
-pub ten-maps : map (λ (row : Row). toldOf (row .made)) rows ≡ map (λ (row : Row). row .told) rows
-unfolding sum firstOf linked links exists passes insideStep linkStep step A bad badAt badCell firstBad finding verdict mayWalk candidate canTry nextPlace gets nextMarked passOn release carry tries search reversed grant decline goOn innerStep runOn walked cutItem itemOf runOf pathsFound cutFound pathBytes logBytes outcome logLeft pathsLeft cutLeft
+pub ten-maps : map (λ (row : MapRow). resultOf (row .made)) rows ≡ map (λ (row : MapRow). row .result) rows
+unfolding sum firstOf linked links exists passes insideStep linkStep step A bad badAt badCell firstBad finding mapVerdict pairVerdict roomVerdict verdict mayWalk candidate canTry nextPlace gets nextMarked passOn release carry tries search reversed grant decline goOn innerStep start runOn walked cutItem itemOf runOf pathsFound cutFound pathBytes logBytes outcome logLeft pathsLeft cutLeft
 ten-maps = refl
 
 -- ---- the case given whole
@@ -146,5 +146,5 @@ wholeOf call = record { numbers = outcome call; log = logLeft call; pathList = p
 pub case-Q :
     wholeOf (callOf 8 (tableOf 8 Q) 0 7 3 560 15 3)
     ≡ record { numbers = shortOfQ; log = zerosAfter 560 logOfQ; pathList = zerosAfter 15 (4 ∷ 0 ∷ 1 ∷ 6 ∷ 7 ∷ 4 ∷ 0 ∷ 4 ∷ 3 ∷ 7 ∷ []); cutList = 1 ∷ 4 ∷ 0 ∷ [] }
-unfolding sum firstOf linked links exists passes insideStep linkStep step A bad badAt badCell firstBad finding verdict mayWalk candidate canTry nextPlace gets nextMarked passOn release carry tries search reversed grant decline goOn innerStep runOn walked cutItem itemOf runOf pathsFound cutFound pathBytes logBytes outcome logLeft pathsLeft cutLeft
+unfolding sum firstOf linked links exists passes insideStep linkStep step A bad badAt badCell firstBad finding mapVerdict pairVerdict roomVerdict verdict mayWalk candidate canTry nextPlace gets nextMarked passOn release carry tries search reversed grant decline goOn innerStep start runOn walked cutItem itemOf runOf pathsFound cutFound pathBytes logBytes outcome logLeft pathsLeft cutLeft
 case-Q = refl

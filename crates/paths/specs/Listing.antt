@@ -1,14 +1,17 @@
 -- What the contracts of this crate say of the log that is read and of the path list that is written.
 use mathlib.Core.Path.{_≡_}
 use mathlib.Core.List.{List, _∷_, _++_}
-use Prim.Native.Nat.{ℕ, suc, _+_, _*_, _%_, _≤_, _<_}
-use lib.ListN.{length, getD, take, drop}
-use Rattle.basics.specs.Lists.{All, AnyTwo}
+use Prim.Native.Nat.{ℕ, suc, _+_, _%_, _≤_, _<_}
+use lib.ListN.{length, drop}
+use Rattle.basics.specs.Lists.{All}
 use Rattle.site.specs.Limits.{mostRadios}
 use Rattle.site.specs.Map.{Site, outHalf}
 use Rattle.tokens.specs.declared.Kind.the-variants.{Done}
 use Rattle.tokens.specs.Run.{Entry, walked, pathsOf}
-use Rattle.log.specs.Bytes.{kindNumber, logBytes}
+use Rattle.log.specs.declared.RawMessage.{RawMessage}
+use Rattle.log.specs.Bytes.{kindNumber, Starts}
+use Rattle.log.specs.Read.{rawAt}
+use Rattle.log.specs.Last.{DonesLast}
 use Rattle.path_lists.specs.Bytes.{pathBytes}
 use Rattle.paths.specs.declared.Walk.{Walk}
 use Rattle.paths.specs.declared.Listed.{Listed}
@@ -19,11 +22,7 @@ use Rattle.paths.specs.declared.Listed.{Listed}
 pub record LogOf (log : List ℕ) (messages s : ℕ) (site : Site) (entries : List Entry) : Type 0 where
   pub source : site .S ≡ s
   pub number : length entries ≡ messages
-  pub bytes : take (4 * messages) log ≡ logBytes entries
-
--- after a DONE come only DONEs
-abbrev pub DonesLast : List Entry → Type 0
-DonesLast entries = AnyTwo (λ (a b : Entry). a .message .kind ≡ Done → b .message .kind ≡ Done) entries
+  pub bytes : Starts entries log
 
 -- what the writer of the path list asks: some messages whose bytes these are, DONEs last, with room for their paths, each of whose lengths fits a byte
 pub record Listable (log : List ℕ) (messages s : ℕ) (list : List ℕ) : Type 0 where
@@ -46,13 +45,13 @@ pub record PathsLeft (site : Site) (entries : List Entry) (before after : List �
 -- r is the first of the DONEs that end the log, or the number of messages
 pub record FirstDone (log : List ℕ) (messages r : ℕ) : Type 0 where
   pub within : r ≤ messages
-  pub done : (at : ℕ) → r ≤ at → at < messages → getD log (4 * at) 0 ≡ kindNumber Done
-  pub other : (at : ℕ) → at + 1 ≡ r → getD log (4 * at) 0 ≡ kindNumber Done → ⊥
+  pub done : (at : ℕ) → r ≤ at → at < messages → rawAt log at .kind ≡ kindNumber Done
+  pub other : (at : ℕ) → at + 1 ≡ r → rawAt log at .kind ≡ kindNumber Done → ⊥
 
--- message number `at` is a DONE to an in half: it reaches a radio
-pub record Arrives (log : List ℕ) (at : ℕ) : Type 0 where
-  pub done : getD log (4 * at) 0 ≡ kindNumber Done
-  pub into : getD log (4 * at + 3) 0 % 2 ≡ 0
+-- a message is a DONE to an in half: it reaches a radio
+pub record Arrives (heard : RawMessage) : Type 0 where
+  pub done : heard .kind ≡ kindNumber Done
+  pub into : heard .to % 2 ≡ 0
 
 -- the messages from one number up to another say nothing of paths
 abbrev pub Silent : List ℕ → ℕ → ℕ → ℕ → Type 0
@@ -62,7 +61,7 @@ Silent log messages from r = (s : ℕ) (site : Site) (entries : List Entry) → 
 pub record NextArrival (log : List ℕ) (from messages r : ℕ) : Type 0 where
   pub after : from ≤ r
   pub within : r ≤ messages
-  pub arrives : r < messages → Arrives log r
+  pub arrives : r < messages → Arrives (rawAt log r)
   pub passed : Silent log messages from r
 
 -- from message number `at` on DONE walks this path first, and then those
@@ -73,8 +72,8 @@ pub record Walks (log : List ℕ) (at messages s : ℕ) (site : Site) (entries :
 -- what the writer of one path asks: S sends message number `at`, a DONE, and there is room for the path that starts there
 pub record Startable (log : List ℕ) (at messages s : ℕ) (rest : List ℕ) : Type 0 where
   pub below : at < messages
-  pub arrives : Arrives log at
-  pub sent : getD log (4 * at + 2) 0 ≡ outHalf s
+  pub arrives : Arrives (rawAt log at)
+  pub sent : rawAt log at .from ≡ outHalf s
   pub source : s < mostRadios
   pub site : Site
   pub entries : List Entry
@@ -94,5 +93,5 @@ pub record PathLeft (site : Site) (entries : List Entry) (path : List ℕ) (late
 pub record WalkEnded (log : List ℕ) (at messages s : ℕ) (before after : List ℕ) (walk : Walk) : Type 0 where
   pub further : at < walk .next
   pub within : walk .next ≤ messages
-  pub arrives : walk .next < messages → Arrives log (walk .next)
+  pub arrives : walk .next < messages → Arrives (rawAt log (walk .next))
   pub left : (site : Site) (entries : List Entry) (path : List ℕ) (later : List (List ℕ)) → Walks log at messages s site entries path later → PathLeft site entries path later before after walk

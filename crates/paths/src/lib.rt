@@ -1,18 +1,10 @@
 // The path list that a run leaves: the paths that DONE walked, read off the log.
 ghost use mathlib.Core.List.{List};
-ghost use Prim.Native.Nat.{_*_, _≤_};
-ghost use lib.ListN.{length};
+ghost use Prim.Native.Nat.{_≤_};
 ghost use Rattle.site.specs.Map.{Site};
 ghost use Rattle.tokens.specs.Run.{Entry};
+ghost use Rattle.log.specs.Bytes.{RoomFor};
 ghost use Rattle.paths.specs.Listing.{LogOf, Listable, PathsLeft, FirstDone, NextArrival, Startable, WalkEnded};
-
-// Where its two halves stand among them.
-const SENDING_HALF: usize = 2;
-
-const RECEIVING_HALF: usize = 3;
-
-// The kind byte of a DONE.
-const DONE: u8 = 4;
 
 // How far the writer of one path came: the first message after the path, and the bytes that the path took.
 struct Walk {
@@ -29,11 +21,15 @@ pub struct Listed {
 // The first of the DONEs that end the log; the number of messages where the last is none. They are few, so it is sought
 // from the end.
 fn first_done(log: &[u8], messages: usize) -> usize
-    requires { ⌜ 4 * messages ≤ length (now log) ⌝ }
+    requires { ⌜ RoomFor messages (now log) ⌝ }
     ensures { λ r. ⌜ FirstDone (now (log .entry)) messages r ⌝ }
 {
     let mut at = messages;
-    while at > 0 && log[log::MESSAGE_BYTES * (at - 1)] == DONE {
+    while at > 0 {
+        let last = log::message_at(log, at - 1);
+        if !log::is_done(last.kind) {
+            return at;
+        }
         at -= 1;
     }
     at
@@ -42,13 +38,12 @@ fn first_done(log: &[u8], messages: usize) -> usize
 // The first message from this number on that is a DONE to an in half; the number of messages where there is none.
 // A DONE to an out half stays within its radio.
 fn next_arrival(log: &[u8], from: usize, messages: usize) -> usize
-    requires { ⌜ (from ≤ messages) × (4 * messages ≤ length (now log)) ⌝ }
+    requires { ⌜ (from ≤ messages) × RoomFor messages (now log) ⌝ }
     ensures { λ r. ⌜ NextArrival (now (log .entry)) from messages r ⌝ }
 {
     for at in from..messages {
-        let kind = log[log::MESSAGE_BYTES * at];
-        let to = log[log::MESSAGE_BYTES * at + RECEIVING_HALF];
-        if kind == DONE && to % 2 == 0 {
+        let heard = log::message_at(log, at);
+        if log::is_done(heard.kind) && heard.to % 2 == 0 {
             return at;
         }
     }
@@ -61,15 +56,17 @@ fn write_path(rest: &mut [u8], log: &[u8], at: usize, messages: usize, s: usize)
     requires { ⌜ Startable (now log) at messages s (now rest) ⌝ }
     ensures { λ r. ⌜ WalkEnded (now (log .entry)) at messages s (now (rest .entry)) (now (rest .exit)) r ⌝ }
 {
+    let first = log::message_at(log, at);
     rest[1] = s as u8;
-    rest[2] = log[log::MESSAGE_BYTES * at + RECEIVING_HALF] / 2;
+    rest[2] = first.to / 2;
     let mut used = 3;
     let mut next = next_arrival(log, at + 1, messages);
     while next < messages {
-        if log[log::MESSAGE_BYTES * next + SENDING_HALF] as usize == 2 * s + 1 {
+        let heard = log::message_at(log, next);
+        if heard.from as usize == 2 * s + 1 {
             break;
         }
-        rest[used] = log[log::MESSAGE_BYTES * next + RECEIVING_HALF] / 2;
+        rest[used] = heard.to / 2;
         used += 1;
         next = next_arrival(log, next + 1, messages);
     }
@@ -88,8 +85,9 @@ pub fn write_paths(log: &[u8], messages: usize, s: usize, paths: &mut [u8]) -> L
     // All DONEs stand at the log's end.
     let mut at = next_arrival(log, first_done(log, messages), messages);
     while at < messages {
+        let heard = log::message_at(log, at);
         // Before S sends its first DONE no path is under way.
-        if log[log::MESSAGE_BYTES * at + SENDING_HALF] as usize != 2 * s + 1 {
+        if heard.from as usize != 2 * s + 1 {
             at = next_arrival(log, at + 1, messages);
             continue;
         }

@@ -1,6 +1,6 @@
 -- The laws of `member`: which members a number has, when two sets are equal, and what each operation on numbers does to the set. Assumes nothing.
 use mathlib.Core.Path.{_≡_, refl, sym, ap, _∙_}
-use mathlib.Core.Bool.{Bool, false, not, _&&_, _||_}
+use mathlib.Core.Bool.{Bool, true, false, not, cond, _&&_, _||_}
 use Prim.Native.Nat.{ℕ, zero, suc, _+_, _-_, _*_, _/_, _%_, _^_, _≤_, _<_, min, max}
 use native.Mathlib.Nat.{pow-suc, mod-lt, div-one, zero-div, div-eq-of-lt, lt-of-lt-of-le}
 use native.Mathlib.Numerals.{one-add}
@@ -9,7 +9,7 @@ use native.Mathlib.Omega.{arith}
 use lib.Dec.{eqb, leb, eqb·zero-suc, eqb·suc-zero, eqb·suc-suc, lit<}
 use lib.Arith.{digits-mod}
 use lib.Pow.{pow-mono, shr-shr, shl-shr, shl-exact}
-use lib.Bits.{bitAnd, bitOr, and-step, or-step, and-shr, or-shr, shifted-half, shifted-even}
+use lib.Bits.{bitAnd, bitOr, bitXor, differ, and-step, or-step, xor-step, and-shr, or-shr, xor-shr, shifted-half, shifted-even}
 use borrow.Author.Tests.{le-leb, lt-leb}
 use Rattle.radios.specs.Member.{member}
 
@@ -54,7 +54,17 @@ pub member-high : (k i x : ℕ) → x < 2 ^ k → k ≤ i → member i x ≡ fal
 unfolding member
 member-high k i x h l = ap (λ (n : ℕ). eqb (n % 2) 1) (div-eq-of-lt (lt-of-lt-of-le h (pow-mono l)))
 
--- ---- and, or
+-- a number of k digits that is not 0 has a member below k
+pub some-member : (k x : ℕ) → x < 2 ^ k → (x ≡ 0 → ⊥) → (v : ℕ) × (v < k) × (member v x ≡ true)
+some-member zero x h ne = absurd (ne (omega arith))
+some-member (suc k) x h ne =
+    by-digit (λ d. x % 2 ≡ d → (v : ℕ) × (v < suc k) × (member v x ≡ true))
+    (λ e. let w = some-member k (x / 2) (omega (arith, pow-suc 2 k)) (λ d. ne (omega arith)) in (suc (w .0), omega (arith, w .1), member-suc (w .0) x ∙ w .2))
+    (λ e. (zero, omega arith, member-zero x ∙ ap (λ (n : ℕ). eqb n 1) e))
+    x
+    refl
+
+-- ---- and, or, one and not the other
 
 -- an operation that works digit by digit, by f, works member by member, by g
 digitwise : (op f : ℕ → ℕ → ℕ) (g : Bool → Bool → Bool)
@@ -80,6 +90,12 @@ pub member-or : (i a b : ℕ) → member i (bitOr a b) ≡ (member i a || member
 member-or =
     digitwise bitOr max _||_ or-shr or-step (λ a b. omega arith)
     (by-two-digits (λ d e. eqb (max d e) 1 ≡ (eqb d 1 || eqb e 1)) refl refl refl refl)
+
+-- what is in one and not in the other: those of a, with those of b changed about
+pub member-xor : (i a b : ℕ) → member i (bitXor a b) ≡ cond (member i b) (not (member i a)) (member i a)
+member-xor =
+    digitwise bitXor differ (λ p q. cond q (not p) p) xor-shr xor-step (by-two-digits (λ d e. differ d e < 2) (lit< tt) (lit< tt) (lit< tt) (lit< tt))
+    (by-two-digits (λ d e. eqb (differ d e) 1 ≡ cond (eqb e 1) (not (eqb d 1)) (eqb d 1)) refl refl refl refl)
 
 -- ---- the complement in k digits
 

@@ -11,7 +11,7 @@ use lib.Bits.{bitAnd}
 use lib.Count.{trailingZeros, under}
 use Rattle.basics.specs.Counting.{First}
 use Rattle.radios.specs.Member.{member}
-use Rattle.radios.proofs.Laws.{by-digit, member-zero, member-suc, member-empty, member-and, member-shr, member-shl}
+use Rattle.radios.proofs.Laws.{by-digit, member-zero, member-suc, member-empty, member-and, member-shr, member-shl, some-member}
 
 -- ---- the zeros
 
@@ -41,6 +41,14 @@ pub zeros-first : (k x : ℕ) → First (λ j. member j x) 0 k (trailingZeros k 
 unfolding trailingZeros
 zeros-first zero x = record { from = omega arith; within = omega arith; before = λ j l h. absurd (omega arith); found = λ h. absurd (omega arith) }
 zeros-first (suc k) x = first-with-lowest k x (trailingZeros k (x / 2)) (zeros-first k (x / 2))
+
+-- and it is below k where the set of k digits is not empty
+pub first-below : (k x r : ℕ) → x < 2 ^ k → (x ≡ 0 → ⊥) → First (λ j. member j x) 0 k r → r < k
+first-below k x r h ne w = pick (decLt r k)
+  where
+    pick : Dec (r < k) → r < k
+    pick (yes l) = l
+    pick (no l) = let some = some-member k x h ne in absurd (true≢false (sym (some .2) ∙ w .before (some .0) (omega arith) (omega (arith, some .1))))
 
 -- ---- the members below i taken out: `(x >> i) << i`
 

@@ -1,6 +1,6 @@
 // Sets of radios. A radio is a number below 64; a set of them is a u64, whose binary digit i says whether radio i is in it.
 ghost use mathlib.Core.Path.{_≡_};
-ghost use mathlib.Core.Bool.{not, _&&_, _||_};
+ghost use mathlib.Core.Bool.{not, cond, _&&_, _||_};
 ghost use Prim.Native.Nat.{ℕ, _+_, _-_, _*_, _^_, _≤_, _<_};
 ghost use lib.Dec.{eqb, ltb, leb};
 ghost use lib.ListN.{length};
@@ -43,6 +43,21 @@ pub fn without(x: u64, i: usize) -> u64
     ensures { λ r. ⌜ ((j : ℕ) → member j r ≡ (not (eqb j i) && member j x)) ⌝ }
 {
     x & !(1u64 << i)
+}
+
+// The set with radio i in it if it was not, and without it if it was.
+pub fn flip(x: u64, i: usize) -> u64
+    requires { ⌜ i < 64 ⌝ }
+    ensures { λ r. ⌜ ((j : ℕ) → member j r ≡ cond (eqb j i) (not (member j x)) (member j x)) ⌝ }
+{
+    x ^ (1u64 << i)
+}
+
+// Is no radio in the set?
+pub fn is_empty(x: u64) -> bool
+    ensures { λ r. ⌜ r ≡ eqb x 0 ⌝ }
+{
+    x == 0
 }
 
 // The radios of x and those of y.

@@ -1,35 +1,35 @@
--- What an accepted call guarantees: a valid site, some path wanted, and room enough. Assumes nothing.
+-- What the refusals that do not come guarantee, part by part: a sound map, a pair that can be asked for, and room enough. Assumes nothing.
 use mathlib.Core.Path.{_≡_, sym, _∙_}
 use mathlib.Core.Bool.{not, _&&_, and-false}
-use mathlib.Core.List.{List}
+use mathlib.Core.List.{List, _++_}
 use mathlib.Core.Logic.{inl, inr}
-use Prim.Native.Nat.{ℕ, _+_, _*_, _/_, _%_, _≤_, _<_}
+use Prim.Native.Nat.{ℕ, _+_, _-_, _*_, _/_, _%_, _≤_, _<_}
 use native.Mathlib.Omega.{arith}
 use native.Mathlib.Decide.{decLt, ℕ-discrete}
 use lib.Dec.{eqb, ltb}
-use lib.ListN.{getD}
-use native.Mathlib.Nat.{mul-add-div-right, mul-add-mod-self-right, mod-eq-of-lt, div-eq-of-lt, mul-le-mul-right, suc-mul}
+use lib.ListN.{length, getD}
 use borrow.Author.Tests.{le-ltb, lt-ltb, eq-eqb, ne-eqb}
-use Rattle.site.specs.Map.{Site, linked}
-use Rattle.refusals.specs.Refusals.{Call, logNeeds, pathsNeed, verdict, number}
-use Rattle.refusals.specs.Conditions.{Fault, mirror}
+use Rattle.basics.specs.Numbered.{NoneHolds}
+use Rattle.basics.proofs.Numbered.{none-parts}
+use Rattle.basics.proofs.Places.{row-of, column-of, in-table}
+use Rattle.site.specs.Limits.{mostRadios, mostLinks, mostPaths}
+use Rattle.site.specs.Map.{linked, links, A}
 use Rattle.site.proofs.Formula.{Even}
 use Rattle.site.proofs.Valid.{Valid}
-use Rattle.refusals.proofs.Exactly.{accepted-exactly}
+use Rattle.log.specs.Bytes.{messageBytes}
+use Rattle.refusals.specs.Refusals.{Call, logNeeds, pathsNeed, verdict, number}
+use Rattle.refusals.specs.Conditions.{Fault, mirror, mapConditions, pairConditions, roomConditions}
+use Rattle.refusals.proofs.Exactly.{call-exact}
+
+-- ---- a table without faults
 
 -- the cells of a table without faults are their mirror cells
 mirrored : (table : List ℕ) (n u v : ℕ) → u < n → v < n → ((place : ℕ) → place < n * n → Fault table n place → ⊥) → getD table (u * n + v) 0 ≡ getD table (v * n + u) 0
 mirrored table n u v p q none = go (ℕ-discrete _ _)
   where
-    row : (u * n + v) / n ≡ u
-    row = mul-add-div-right {m = n} (omega arith) u v ∙ omega (arith, div-eq-of-lt q)
-
-    column : (u * n + v) % n ≡ v
-    column = mul-add-mod-self-right u n v ∙ mod-eq-of-lt q
-
     go : Dec (getD table (u * n + v) 0 ≡ getD table (v * n + u) 0) → getD table (u * n + v) 0 ≡ getD table (v * n + u) 0
     go (yes e) = e
-    go (no e) = absurd (none (u * n + v) (omega (arith, mul-le-mul-right n p, suc-mul u n)) (mirror (rw (row, column) e)))
+    go (no e) = absurd (none (u * n + v) (in-table n u v p q) (mirror (rw (row-of n u v q, column-of n u v q) e)))
 
 -- so its links lead both ways
 pub even-links : (table : List ℕ) (n : ℕ) → ((place : ℕ) → place < n * n → Fault table n place → ⊥) → Even table n
@@ -43,37 +43,88 @@ even-links table n none u v = go (decLt u n) (decLt v n) (ℕ-discrete u v)
     go (yes p) (no q) e = rw (le-ltb v n (omega arith), and-false)
     go (no p) q e = rw (le-ltb u n (omega arith), and-false)
 
+-- ---- what each part guarantees
+
+-- 1 to 4 do not come: a sound map
+pub record SoundMap (table : List ℕ) (n : ℕ) : Type 0 where
+  pub two-radios : 2 ≤ n
+  pub few-radios : n ≤ mostRadios
+  pub long : length table ≡ n * n
+  pub no-fault : (place : ℕ) → place < n * n → Fault table n place → ⊥
+  pub even : Even table n
+  pub few-links : links table n ≤ mostLinks
+
+pub sound-map : (table : List ℕ) (n : ℕ) → NoneHolds (mapConditions table n) → SoundMap table n
+sound-map table n (radios, (length-differs, (faults, (many-links, end)))) =
+    let some : n < 2 → ⊥ = λ p. radios (inl p) in
+    let few : mostRadios < n → ⊥ = λ p. radios (inr p) in
+    let no-fault : (place : ℕ) → place < n * n → Fault table n place → ⊥ = λ place p fault. faults (place, p, fault) in
+    record { two-radios = omega arith; few-radios = omega arith; long = go (ℕ-discrete _ _); no-fault = no-fault; even = even-links table n no-fault; few-links = omega arith }
+  where
+    go : Dec (length table ≡ n * n) → length table ≡ n * n
+    go (yes e) = e
+    go (no e) = absurd (length-differs e)
+
+-- 5 and 6 do not come: two radios of the map, and a number of paths that may be wanted
+pub record GoodPair (n S T k : ℕ) : Type 0 where
+  pub S-below : S < n
+  pub T-below : T < n
+  pub ends-differ : S ≡ T → ⊥
+  pub wanted : 0 < k
+  pub few-wanted : k ≤ mostPaths
+
+pub good-pair : (n S T k : ℕ) → NoneHolds (pairConditions n S T k) → GoodPair n S T k
+good-pair n S T k (ends, (paths, end)) =
+    let source : n ≤ S → ⊥ = λ p. ends (inl p) in
+    let sink : n ≤ T → ⊥ = λ p. ends (inr (inl p)) in
+    let some : k ≡ 0 → ⊥ = λ e. paths (inl e) in
+    let few : mostPaths < k → ⊥ = λ p. paths (inr p) in
+    record { S-below = omega arith; T-below = omega arith; ends-differ = λ e. ends (inr (inr e)); wanted = omega arith; few-wanted = omega arith }
+
+-- 7 and 8 do not come: room enough
+pub record EnoughRoom (n k steps logLength pathsLength cutLength : ℕ) : Type 0 where
+  pub log : messageBytes * ((2 * k + 1) * steps) ≤ logLength
+  pub paths : n - 2 + 3 * k ≤ pathsLength
+  pub cut : k ≤ cutLength
+
+pub enough-room : (n k steps logLength pathsLength cutLength : ℕ) → NoneHolds (roomConditions n k steps logLength pathsLength cutLength) → EnoughRoom n k steps logLength pathsLength cutLength
+enough-room n k steps logLength pathsLength cutLength (log-short, (lists-short, end)) =
+    let paths : pathsLength < n - 2 + 3 * k → ⊥ = λ p. lists-short (inl p) in
+    let cut : cutLength < k → ⊥ = λ p. lists-short (inr p) in
+    record { log = omega arith; paths = omega arith; cut = omega arith }
+
+-- ---- an accepted call
+
+-- all three together
+pub record Unopposed (call : Call) : Type 0 where
+  pub map : SoundMap (call .site .table) (call .site .n)
+  pub pair : GoodPair (call .site .n) (call .site .S) (call .site .T) (call .k)
+  pub room : EnoughRoom (call .site .n) (call .k) (A (call .site)) (call .logLength) (call .pathsLength) (call .cutLength)
+
+pub unopposed : (call : Call) → number (verdict call) ≡ 0 → Unopposed call
+unopposed call accepted =
+    let on-map = mapConditions (call .site .table) (call .site .n) in
+    let on-pair = pairConditions (call .site .n) (call .site .S) (call .site .T) (call .k) in
+    let on-room = roomConditions (call .site .n) (call .k) (A (call .site)) (call .logLength) (call .pathsLength) (call .cutLength) in
+    let (before-room, room) = none-parts (on-map ++ on-pair) on-room (call-exact call .law .none .0 accepted) in
+    let (map, pair) = none-parts on-map on-pair before-room in
+    record { map = sound-map _ _ map; pair = good-pair _ _ _ _ pair; room = enough-room _ _ _ _ _ _ room }
+
 -- an accepted call has a valid site
 pub accepted-valid : (call : Call) → number (verdict call) ≡ 0 → Valid (call .site)
 accepted-valid call accepted =
-    let none = accepted-exactly call .0 accepted in
-    let enough : call .site .n < 2 → ⊥ = λ p. none 0 (inl p) in
-    let few : 64 < call .site .n → ⊥ = λ p. none 0 (inr p) in
-    let S-in : call .site .n ≤ call .site .S → ⊥ = λ p. none 4 (inl p) in
-    let T-in : call .site .n ≤ call .site .T → ⊥ = λ p. none 4 (inr (inl p)) in
-    record {
-      two-radios = omega arith;
-      few-radios = omega arith;
-      even = even-links (call .site .table) (call .site .n) (λ place p fault. none 2 (place, p, fault));
-      S-below = omega arith;
-      T-below = omega arith;
-      ends-differ = λ e. none 4 (inr (inr e));
-    }
+    let record { map = map; pair = pair; room = room } = unopposed call accepted in
+    record { two-radios = map .two-radios; few-radios = map .few-radios; even = map .even; S-below = pair .S-below; T-below = pair .T-below; ends-differ = pair .ends-differ }
 
 -- an accepted call wants some path, and lends enough room
 pub record Room (call : Call) : Type 0 where
   pub wanted : 0 < call .k
-  pub few-wanted : call .k ≤ 8
+  pub few-wanted : call .k ≤ mostPaths
   pub log : logNeeds (call .site) (call .k) ≤ call .logLength
   pub paths : pathsNeed (call .site) (call .k) ≤ call .pathsLength
   pub cut : call .k ≤ call .cutLength
 
 pub accepted-room : (call : Call) → number (verdict call) ≡ 0 → Room call
 accepted-room call accepted =
-    let none = accepted-exactly call .0 accepted in
-    let some : call .k ≡ 0 → ⊥ = λ e. none 5 (inl e) in
-    let few : 8 < call .k → ⊥ = λ p. none 5 (inr p) in
-    let log : call .logLength < logNeeds (call .site) (call .k) → ⊥ = λ p. none 6 p in
-    let paths : call .pathsLength < pathsNeed (call .site) (call .k) → ⊥ = λ p. none 7 (inl p) in
-    let cut : call .cutLength < call .k → ⊥ = λ p. none 7 (inr p) in
-    record { wanted = omega arith; few-wanted = omega arith; log = omega arith; paths = omega arith; cut = omega arith }
+    let record { map = map; pair = pair; room = room } = unopposed call accepted in
+    record { wanted = pair .wanted; few-wanted = pair .few-wanted; log = room .log; paths = room .paths; cut = room .cut }

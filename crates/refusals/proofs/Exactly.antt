@@ -1,104 +1,26 @@
 -- Demand 1 over the refusals: each number is given exactly when its own condition holds and none before it does. Assumes nothing.
 use mathlib.Core.Path.{_≡_, refl, sym, _∙_}
 use mathlib.Core.Bool.{Bool, true, false, not, _||_, cond, true≢false, false≢true}
-use mathlib.Core.List.{List, [], _∷_}
+use mathlib.Core.List.{List, [], _∷_, _++_}
 use mathlib.Core.Logic.{_⊎_, inl, inr, _↔_}
-use Prim.Native.Nat.{ℕ, zero, suc, _+_, _*_, _/_, _%_, _<_}
+use Prim.Native.Nat.{ℕ, _+_, _*_, _/_, _%_, _<_, _≤_}
 use native.Mathlib.Omega.{arith}
 use native.Mathlib.Nat.{div-add-mod'}
 use lib.Dec.{eqb, ltb}
-use lib.ListN.{length, getD}
-use borrow.Author.Tests.{ltb-true, ltb-false}
-use Rattle.basics.specs.Counting.{First as Counted}
-use Rattle.basics.proofs.Bools.{Tells, tells-below, tells-not-below, tells-equal, tells-or, tells-and, tells-not, tells-same}
+use lib.ListN.{getD}
+use borrow.Author.Tests.{eq-eqb, ne-eqb, ltb-true, ltb-false}
+use Rattle.basics.specs.Counting.{First}
+use Rattle.basics.specs.Numbered.{Conditions, Lawful}
+use Rattle.basics.proofs.Bools.{clash, or-left, or-right, Tells, tells-below, tells-not-below, tells-equal, tells-or, tells-and, tells-not, tells-same}
 use Rattle.basics.proofs.Counting.{first-from}
-use Rattle.site.specs.Map.{links}
-use Rattle.refusals.specs.Refusals.{Call, bad, badAt, badCell, firstBad, finding, logNeeds, pathsNeed, refuse, passed, verdict, number, placeOf}
-use Rattle.refusals.specs.Conditions.{Fault, no-bit, diagonal, mirror, FirstFault, conditions, Holds, First}
+use Rattle.basics.proofs.Numbered.{law-one, law-after}
+use Rattle.site.specs.Limits.{mostRadios, mostLinks, mostPaths}
+use Rattle.site.specs.Map.{A}
+use Rattle.refusals.specs.Refusals.{Call, bad, badAt, badCell, firstBad, finding, refuse, passed, _orElse_, mapVerdict, pairVerdict, roomVerdict, verdict, number, placeOf}
+use Rattle.refusals.specs.Conditions.{Fault, no-bit, diagonal, mirror, FirstFault, mapConditions, pairConditions, roomConditions, conditions}
 use Rattle.refusals.specs.declared.Finding.the-variants.{Sound, Bad}
 use Rattle.refusals.specs.declared.Verdict.{Verdict}
 use Rattle.refusals.specs.declared.Verdict.the-variants.{Accepted, Radios, TableLength, Cell, Links, Ends, Wanted, Log, Lists}
-
--- ---- a list of tests, each with the verdict that it gives
-
-abbrev firstThat : List (Bool × Verdict) → Verdict
-firstThat [] = Accepted
-firstThat (t ∷ rest) = refuse (t .0) (t .1) (firstThat rest)
-
--- their numbers rise by one, from k + 1 on
-abbrev Numbered : ℕ → List (Bool × Verdict) → Type 0
-Numbered k [] = Unit
-Numbered k (t ∷ rest) = (number (t .1) ≡ suc k) × Numbered (suc k) rest
-
--- test by test they tell the conditions
-abbrev AllTell : List (Bool × Verdict) → List (Type 0) → Type 0
-AllTell [] [] = Unit
-AllTell [] (P ∷ conditions) = ⊥
-AllTell (t ∷ rest) [] = ⊥
-AllTell (t ∷ rest) (P ∷ conditions) = Tells (t .0) P × AllTell rest conditions
-
--- no number up to k is given by tests numbered from k + 1 on
-later : (k i : ℕ) (tests : List (Bool × Verdict)) → Numbered k tests → i < k → number (firstThat tests) ≡ suc i → ⊥
-later k i [] m p e = omega arith
-later k i (t ∷ rest) m p e = go (t .0) e (λ e′. later (suc k) i rest (m .1) (omega arith) e′)
-  where
-    go : (b : Bool) → number (refuse b (t .1) (firstThat rest)) ≡ suc i → (number (firstThat rest) ≡ suc i → ⊥) → ⊥
-    go true u ih = omega (arith, m .0)
-    go false u ih = ih u
-
--- the verdict at a place of the list
-abbrev Gives : ℕ → List (Bool × Verdict) → Verdict → Type 0
-Gives i [] v = ⊥
-Gives zero (t ∷ rest) v = (t .0 ≡ true) × (v ≡ t .1)
-Gives (suc i) (t ∷ rest) v = Gives i rest v
-
--- the number given tells which test held, and that its verdict was given
-gives : (k i : ℕ) (tests : List (Bool × Verdict)) → Numbered k tests → number (firstThat tests) ≡ suc (k + i) → Gives i tests (firstThat tests)
-gives k i [] m e = omega arith
-gives k zero (t ∷ rest) m e = go (t .0) refl e
-  where
-    go : (b : Bool) → t .0 ≡ b → number (refuse b (t .1) (firstThat rest)) ≡ suc (k + 0) → (t .0 ≡ true) × (refuse b (t .1) (firstThat rest) ≡ t .1)
-    go true u e′ = (u, refl)
-    go false u e′ = absurd (later (suc k) k rest (m .1) (omega arith) (omega arith))
-gives k (suc i) (t ∷ rest) m e = go (t .0) e (gives (suc k) i rest (m .1))
-  where
-    go : (b : Bool) → number (refuse b (t .1) (firstThat rest)) ≡ suc (k + suc i) → (number (firstThat rest) ≡ suc (suc k + i) → Gives i rest (firstThat rest)) → Gives i rest (refuse b (t .1) (firstThat rest))
-    go true e′ ih = absurd (omega (arith, m .0))
-    go false e′ ih = ih (omega arith)
-
--- a number is given exactly when its own condition holds and none before it does
-exact : (k i : ℕ) (tests : List (Bool × Verdict)) (list : List (Type 0)) → Numbered k tests → AllTell tests list → (number (firstThat tests) ≡ suc (k + i)) ↔ First i list
-exact k i [] [] m a = (λ e. absurd (omega arith), λ h. absurd (h .0))
-exact k i [] (P ∷ list) m a = absurd a
-exact k i (t ∷ rest) [] m a = absurd a
-exact k zero (t ∷ rest) (P ∷ list) m a = (λ e. (a .0 .0 (gives k 0 (t ∷ rest) m e .0), λ j p. absurd (omega arith)), λ h. given (a .0 .1 (h .0)))
-  where
-    given : t .0 ≡ true → number (refuse (t .0) (t .1) (firstThat rest)) ≡ suc (k + 0)
-    given u = rw u (omega (arith, m .0))
-exact k (suc i) (t ∷ rest) (P ∷ list) m a = go (t .0) refl (exact (suc k) i rest list (m .1) (a .1))
-  where
-    go : (b : Bool) → t .0 ≡ b → (number (firstThat rest) ≡ suc (suc k + i)) ↔ First i list → (number (refuse b (t .1) (firstThat rest)) ≡ suc (k + suc i)) ↔ First (suc i) (P ∷ list)
-    go true u ih = (λ e. absurd (omega (arith, m .0)), λ h. absurd (h .1 0 (omega arith) (a .0 .0 u)))
-    go false u ih = (λ e. let h = ih .0 (omega arith) in (h .0, before (h .1)), λ h. omega (arith, ih .1 (h .0, λ j p x. h .1 (suc j) (omega arith) x)))
-      where
-        before : ((j : ℕ) → j < i → Holds j list → ⊥) → (j : ℕ) → j < suc i → Holds j (P ∷ list) → ⊥
-        before f zero p x = true≢false (sym (a .0 .1 x) ∙ u)
-        before f (suc j) p x = f j (omega arith) x
-
--- no number is given exactly when no condition holds
-none : (k : ℕ) (tests : List (Bool × Verdict)) (list : List (Type 0)) → Numbered k tests → AllTell tests list → (number (firstThat tests) ≡ 0) ↔ ((j : ℕ) → Holds j list → ⊥)
-none k [] [] m a = (λ e j h. h, λ f. refl)
-none k [] (P ∷ list) m a = absurd a
-none k (t ∷ rest) [] m a = absurd a
-none k (t ∷ rest) (P ∷ list) m a = go (t .0) refl (none (suc k) rest list (m .1) (a .1))
-  where
-    go : (b : Bool) → t .0 ≡ b → (number (firstThat rest) ≡ 0) ↔ ((j : ℕ) → Holds j list → ⊥) → (number (refuse b (t .1) (firstThat rest)) ≡ 0) ↔ ((j : ℕ) → Holds j (P ∷ list) → ⊥)
-    go true u ih = (λ e. absurd (omega (arith, m .0)), λ f. absurd (f 0 (a .0 .0 u)))
-    go false u ih = (λ e. each (ih .0 e), λ f. ih .1 (λ j x. f (suc j) x))
-      where
-        each : ((j : ℕ) → Holds j list → ⊥) → (j : ℕ) → Holds j (P ∷ list) → ⊥
-        each f zero x = true≢false (sym (a .0 .1 x) ∙ u)
-        each f (suc j) x = f j x
 
 -- ---- the table's cells
 
@@ -127,7 +49,7 @@ bad-cell table n place = rw (div-add-mod' place n) (tells-same _ (bad-words (pla
 
 module _ (table : List ℕ) (n : ℕ) where
   -- what "first" says of the first bad cell
-  first-bad : Counted (badCell table n) 0 (n * n) (firstBad table n)
+  first-bad : First (badCell table n) 0 (n * n) (firstBad table n)
   unfolding firstBad
   first-bad = first-from (badCell table n) 0 (n * n) (omega arith)
 
@@ -155,81 +77,99 @@ sound-table table n sound place p fault = go (ltb (firstBad table n) (n * n)) (s
     go true e told = let z : _≡_ {A = ℕ} 0 1 = cc in omega arith
     go false e told = false≢true e
 
--- ---- the refusals
+-- ---- each part of the list, and the whole
 
-tests : Call → List (Bool × Verdict)
-tests call =
-    let site = call .site in
-    let n = site .n in
-    (ltb n 2 || ltb 64 n, Radios)
-    ∷ (not (eqb (length (site .table)) (n * n)), TableLength)
-    ∷ (ltb (firstBad (site .table) n) (n * n), Cell (firstBad (site .table) n))
-    ∷ (ltb 256 (links (site .table) n), Links)
-    ∷ (not (ltb (site .S) n) || not (ltb (site .T) n) || eqb (site .S) (site .T), Ends)
-    ∷ (eqb (call .k) 0 || ltb 8 (call .k), Wanted)
-    ∷ (ltb (call .logLength) (logNeeds site (call .k)), Log)
-    ∷ (ltb (call .pathsLength) (pathsNeed site (call .k)) || ltb (call .cutLength) (call .k), Lists)
-    ∷ []
+-- a verdict follows the law of the conditions, and for 3 its place is a bad cell and no earlier cell is bad
+pub record Exact (table : List ℕ) (n : ℕ) (list : Conditions) (v : Verdict) : Type 0 where
+  pub law : Lawful number list v
+  pub place-of-3 : number v ≡ 3 → FirstFault table n (placeOf v)
 
--- the verdict is the first of these
-is-first : (call : Call) → verdict call ≡ firstThat (tests call)
-unfolding verdict finding tests
-is-first call = rw (as-test (ltb (firstBad (call .site .table) (call .site .n)) (call .site .n * call .site .n)))
+module _ {table : List ℕ} {n : ℕ} where
+  -- one refusal other than 3
+  pub one : (v : Verdict) (test : Bool) {P : Type 0} → (eqb (number v) 0 || eqb (number v) 3) ≡ false → Tells test P → Exact table n ((number v, P) ∷ []) (refuse test v)
+  one v test {P} other tells = record { law = law-one number v Accepted test some refl tells; place-of-3 = go test }
+    where
+      some : number v ≡ 0 → ⊥
+      some e = clash (or-left _ _ (eq-eqb _ _ e)) other
+
+      go : (b : Bool) → number (refuse b v) ≡ 3 → FirstFault table n (placeOf (refuse b v))
+      go true e = clash (or-right (eqb (number v) 0) _ (eq-eqb (number v) 3 e)) other
+      go false e = absurd (omega arith)
+
+  infixl 25 _then_
+  -- the refusals of one list, then those of another
+  pub _then_ : {list next : Conditions} {v w : Verdict} → Exact table n list v → Exact table n next w → Exact table n (list ++ next) (v orElse w)
+  _then_ {v} {w} first second = record { law = law-after number (first .law) (second .law); place-of-3 = go (eqb (number v) 0) }
+    where
+      go : (b : Bool) → number (cond b w v) ≡ 3 → FirstFault table n (placeOf (cond b w v))
+      go true = second .place-of-3
+      go false = first .place-of-3
+
+cells-exact : (table : List ℕ) (n : ℕ) → Exact table n ((3, (place : ℕ) × (place < n * n) × Fault table n place) ∷ []) (passed (finding table n))
+unfolding finding
+cells-exact table n = go (ltb (firstBad table n) (n * n)) refl (some-fault table n)
   where
-    as-test : (b : Bool) (place : ℕ) (rest : Verdict) → passed (cond b (Bad place) Sound) rest ≡ refuse b (Cell place) rest
-    as-test true place rest = refl
-    as-test false place rest = refl
+    go : (b : Bool) → ltb (firstBad table n) (n * n) ≡ b → Tells b ((place : ℕ) × (place < n * n) × Fault table n place)
+        → Exact table n ((3, (place : ℕ) × (place < n * n) × Fault table n place) ∷ []) (passed (cond b (Bad (firstBad table n)) Sound))
+    go true e tells = record { law = law-one number (Cell (firstBad table n)) Accepted true (λ q. omega arith) refl tells; place-of-3 = λ q. first-fault table n (ltb-true _ _ e) }
+    go false e tells = record { law = law-one number (Cell (firstBad table n)) Accepted false (λ q. omega arith) refl tells; place-of-3 = λ q. absurd (omega arith) }
 
-numbered : (call : Call) → Numbered 0 (tests call)
-unfolding tests
-numbered call = (refl, (refl, (refl, (refl, (refl, (refl, (refl, (refl, tt))))))))
+pub map-exact : (table : List ℕ) (n : ℕ) → Exact table n (mapConditions table n) (mapVerdict table n)
+unfolding mapVerdict
+map-exact table n =
+    one Radios _ refl (tells-or _ _ (tells-below n 2) (tells-below mostRadios n))
+    then one TableLength _ refl (tells-not _ (tells-equal _ _))
+    then cells-exact table n
+    then one Links _ refl (tells-below _ _)
 
-all-tell : (call : Call) → AllTell (tests call) (conditions call)
-unfolding tests
-all-tell call =
-    let site = call .site in (
-      tells-or _ _ (tells-below _ _) (tells-below _ _),
-      (
-        tells-not _ (tells-equal _ _),
-        (
-          some-fault (site .table) (site .n),
-          (
-            tells-below _ _,
-            (
-              tells-same _ (tells-or _ _ (tells-or _ _ (tells-not-below _ _) (tells-not-below _ _)) (tells-equal _ _)) (to, back),
-              (tells-or _ _ (tells-equal _ _) (tells-below _ _), (tells-below _ _, (tells-or _ _ (tells-below _ _) (tells-below _ _), tt))),
-            ),
-          ),
-        ),
-      ),
-    )
+pub pair-exact : {table : List ℕ} (n S T k : ℕ) → Exact table n (pairConditions n S T k) (pairVerdict n S T k)
+unfolding pairVerdict
+pair-exact n S T k =
+    one Ends _ refl (tells-same _ (tells-or _ _ (tells-or _ _ (tells-not-below S n) (tells-not-below T n)) (tells-equal S T)) (to, back))
+    then one Wanted _ refl (tells-or _ _ (tells-equal k 0) (tells-below mostPaths k))
   where
-    to : {P R Q : Type 0} → (P ⊎ R) ⊎ Q → P ⊎ R ⊎ Q
-    to (inl (inl x)) = inl x
-    to (inl (inr x)) = inr (inl x)
-    to (inr x) = inr (inr x)
+    to : ((n ≤ S) ⊎ (n ≤ T)) ⊎ (S ≡ T) → (n ≤ S) ⊎ (n ≤ T) ⊎ (S ≡ T)
+    to (inl (inl p)) = inl p
+    to (inl (inr p)) = inr (inl p)
+    to (inr p) = inr (inr p)
 
-    back : {P R Q : Type 0} → P ⊎ R ⊎ Q → (P ⊎ R) ⊎ Q
-    back (inl x) = inl (inl x)
-    back (inr (inl x)) = inl (inr x)
-    back (inr (inr x)) = inr x
+    back : (n ≤ S) ⊎ (n ≤ T) ⊎ (S ≡ T) → ((n ≤ S) ⊎ (n ≤ T)) ⊎ (S ≡ T)
+    back (inl p) = inl (inl p)
+    back (inr (inl p)) = inl (inr p)
+    back (inr (inr p)) = inr p
 
--- a refusal's number is given exactly when its own condition holds and none before it does
-pub refused-exactly : (call : Call) (i : ℕ) → (number (verdict call) ≡ suc i) ↔ First i (conditions call)
-refused-exactly call i = rw (is-first call) (let e = exact 0 i (tests call) (conditions call) (numbered call) (all-tell call) in (λ q. e .0 (omega arith), λ h. omega (arith, e .1 h)))
+pub room-exact : {table : List ℕ} (n k steps logLength pathsLength cutLength : ℕ)
+    → Exact table n (roomConditions n k steps logLength pathsLength cutLength) (roomVerdict n k steps logLength pathsLength cutLength)
+unfolding roomVerdict
+room-exact n k steps logLength pathsLength cutLength =
+    one Log _ refl (tells-below _ _)
+    then one Lists _ refl (tells-or _ _ (tells-below _ _) (tells-below _ _))
 
--- a call is accepted exactly when no condition holds
-pub accepted-exactly : (call : Call) → (number (verdict call) ≡ 0) ↔ ((i : ℕ) → Holds i (conditions call) → ⊥)
-accepted-exactly call = rw (is-first call) (none 0 (tests call) (conditions call) (numbered call) (all-tell call))
+pub call-exact : (call : Call) → Exact (call .site .table) (call .site .n) (conditions call) (verdict call)
+unfolding verdict
+call-exact call = map-exact _ _ then pair-exact _ _ _ _ then room-exact _ _ _ _ _ _
 
--- for 3 the place is a bad cell and no earlier cell is bad
-pub place-of-3 : (call : Call) → number (verdict call) ≡ 3 → FirstFault (call .site .table) (call .site .n) (placeOf (verdict call))
-unfolding tests
-place-of-3 call e =
-    let given = gives 0 2 (tests call) (numbered call) (rw (is-first call) at e) in
-    rw (is-first call, given .1) (first-fault (call .site .table) (call .site .n) (ltb-true _ _ (given .0)))
+-- which part a call's verdict is
+module _ (call : Call) where
+  abbrev on-map : Verdict
+  on-map = mapVerdict (call .site .table) (call .site .n)
 
--- every other verdict has place 0
+  abbrev on-pair : Verdict
+  on-pair = pairVerdict (call .site .n) (call .site .S) (call .site .T) (call .k)
+
+  pub told-by-map : (number on-map ≡ 0 → ⊥) → verdict call ≡ on-map
+  unfolding verdict
+  told-by-map refused = simp (ne-eqb _ _ refused)
+
+  pub told-by-pair : number on-map ≡ 0 → (number on-pair ≡ 0 → ⊥) → verdict call ≡ on-pair
+  unfolding verdict
+  told-by-pair accepted refused = simp (eq-eqb _ _ accepted, ne-eqb _ _ refused)
+
+  pub told-by-room : number on-map ≡ 0 → number on-pair ≡ 0 → verdict call ≡ roomVerdict (call .site .n) (call .k) (A (call .site)) (call .logLength) (call .pathsLength) (call .cutLength)
+  unfolding verdict
+  told-by-room accepted fine = simp (eq-eqb _ _ accepted, eq-eqb _ _ fine)
+
+-- only 3 has a place
 pub no-place : (v : Verdict) → (number v ≡ 3 → ⊥) → placeOf v ≡ 0
 no-place Accepted h = refl
 no-place Radios h = refl

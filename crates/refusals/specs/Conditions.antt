@@ -1,9 +1,10 @@
 -- The column "given exactly when" of document 01's table of refusals, as facts about a call.
 use mathlib.Core.Path.{_≡_}
-use mathlib.Core.List.{List, [], _∷_}
+use mathlib.Core.List.{List, [], _∷_, _++_}
 use mathlib.Core.Logic.{_⊎_}
-use Prim.Native.Nat.{ℕ, zero, suc, _+_, _-_, _*_, _/_, _%_, _<_, _≤_}
+use Prim.Native.Nat.{ℕ, _+_, _-_, _*_, _/_, _%_, _<_, _≤_}
 use lib.ListN.{length, getD}
+use Rattle.basics.specs.Numbered.{Conditions}
 use Rattle.site.specs.Limits.{mostRadios, mostLinks, mostPaths}
 use Rattle.site.specs.Map.{links, A}
 use Rattle.log.specs.Bytes.{messageBytes}
@@ -21,26 +22,33 @@ pub record FirstFault (table : List ℕ) (n place : ℕ) : Type 0 where
   pub fault : Fault table n place
   pub none-before : (earlier : ℕ) → earlier < place → Fault table n earlier → ⊥
 
--- refusals 1 to 8, top to bottom
-abbrev pub conditions : Call → List (Type 0)
-conditions call =
-    let site = call .site in
-    ((site .n < 2) ⊎ (mostRadios < site .n))
-    ∷ (length (site .table) ≡ site .n * site .n → ⊥)
-    ∷ ((place : ℕ) × (place < site .n * site .n) × Fault (site .table) (site .n) place)
-    ∷ (mostLinks < links (site .table) (site .n))
-    ∷ ((site .n ≤ site .S) ⊎ (site .n ≤ site .T) ⊎ (site .S ≡ site .T))
-    ∷ ((call .k ≡ 0) ⊎ (mostPaths < call .k))
-    ∷ (call .logLength < messageBytes * ((2 * call .k + 1) * A site))
-    ∷ ((call .pathsLength < site .n - 2 + 3 * call .k) ⊎ (call .cutLength < call .k))
+-- 1 to 4: a map of n radios
+abbrev pub mapConditions : List ℕ → ℕ → Conditions
+mapConditions table n =
+    (1, (n < 2) ⊎ (mostRadios < n))
+    ∷ (2, length table ≡ n * n → ⊥)
+    ∷ (3, (place : ℕ) × (place < n * n) × Fault table n place)
+    ∷ (4, mostLinks < links table n)
     ∷ []
 
--- the condition at a place of the list, counted from 0; past its end there is none that holds
-abbrev pub Holds : ℕ → List (Type 0) → Type 0
-Holds i [] = ⊥
-Holds zero (P ∷ list) = P
-Holds (suc i) (P ∷ list) = Holds i list
+-- 5 and 6: two radios of n, and the number of paths wanted
+abbrev pub pairConditions : ℕ → ℕ → ℕ → ℕ → Conditions
+pairConditions n S T k =
+    (5, (n ≤ S) ⊎ (n ≤ T) ⊎ (S ≡ T))
+    ∷ (6, (k ≡ 0) ⊎ (mostPaths < k))
+    ∷ []
 
--- its own condition holds, and none before it does
-abbrev pub First : ℕ → List (Type 0) → Type 0
-First i list = Holds i list × ((j : ℕ) → j < i → Holds j list → ⊥)
+-- 7 and 8: the lengths of the three buffers, for k paths among n radios over so many steps
+abbrev pub roomConditions : ℕ → ℕ → ℕ → ℕ → ℕ → ℕ → Conditions
+roomConditions n k steps logLength pathsLength cutLength =
+    (7, logLength < messageBytes * ((2 * k + 1) * steps))
+    ∷ (8, (pathsLength < n - 2 + 3 * k) ⊎ (cutLength < k))
+    ∷ []
+
+-- 1 to 8
+abbrev pub conditions : Call → Conditions
+conditions call =
+    let site = call .site in
+    mapConditions (site .table) (site .n)
+    ++ pairConditions (site .n) (site .S) (site .T) (call .k)
+    ++ roomConditions (site .n) (call .k) (A site) (call .logLength) (call .pathsLength) (call .cutLength)

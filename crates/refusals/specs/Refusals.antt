@@ -58,31 +58,7 @@ logNeeds site k = messageBytes * mostMessages site k
 abbrev pub pathsNeed : Site → ℕ → ℕ
 pathsNeed site k = site .n - 2 + 3 * k
 
--- ---- the first reason against a call
-
--- the verdict v if the test holds, else what comes after it
-abbrev pub refuse : Bool → Verdict → Verdict → Verdict
-refuse true v rest = v
-refuse false v rest = rest
-
--- a finding on the table is passed on
-abbrev pub passed : Finding → Verdict → Verdict
-passed Sound rest = rest
-passed (Bad place) rest = Cell place
-
-unfoldable pub verdict : Call → Verdict
-verdict call =
-    let site = call .site in
-    let n = site .n in
-    refuse (ltb n 2 || ltb mostRadios n) Radios (
-    refuse (not (eqb (length (site .table)) (n * n))) TableLength (
-    passed (finding (site .table) n) (
-    refuse (ltb mostLinks (links (site .table) n)) Links (
-    refuse (not (ltb (site .S) n) || not (ltb (site .T) n) || eqb (site .S) (site .T)) Ends (
-    refuse (eqb (call .k) 0 || ltb mostPaths (call .k)) Wanted (
-    refuse (ltb (call .logLength) (logNeeds site (call .k))) Log (
-    refuse (ltb (call .pathsLength) (pathsNeed site (call .k)) || ltb (call .cutLength) (call .k)) Lists
-    Accepted)))))))
+-- ---- numbers and places
 
 -- document 01's number for each verdict; 0 is none
 abbrev pub number : Verdict → ℕ
@@ -107,3 +83,46 @@ placeOf Ends = 0
 placeOf Wanted = 0
 placeOf Log = 0
 placeOf Lists = 0
+
+-- ---- the first reason against a call
+
+-- refused by v if the test holds
+abbrev pub refuse : Bool → Verdict → Verdict
+refuse test v = cond test v Accepted
+
+-- a finding on the table is passed on
+abbrev pub passed : Finding → Verdict
+passed Sound = Accepted
+passed (Bad place) = Cell place
+
+infixl 25 _orElse_
+-- the first of two verdicts that does not accept
+abbrev pub _orElse_ : Verdict → Verdict → Verdict
+v orElse w = cond (eqb (number v) 0) w v
+
+-- 1 to 4: a map of n radios
+unfoldable pub mapVerdict : List ℕ → ℕ → Verdict
+mapVerdict table n =
+    refuse (ltb n 2 || ltb mostRadios n) Radios
+    orElse refuse (not (eqb (length table) (n * n))) TableLength
+    orElse passed (finding table n)
+    orElse refuse (ltb mostLinks (links table n)) Links
+
+-- 5 and 6: two radios of n, and the number of paths wanted
+unfoldable pub pairVerdict : ℕ → ℕ → ℕ → ℕ → Verdict
+pairVerdict n S T k =
+    refuse (not (ltb S n) || not (ltb T n) || eqb S T) Ends
+    orElse refuse (eqb k 0 || ltb mostPaths k) Wanted
+
+-- 7 and 8: the lengths of the three buffers, for k paths among n radios over so many steps
+unfoldable pub roomVerdict : ℕ → ℕ → ℕ → ℕ → ℕ → ℕ → Verdict
+roomVerdict n k steps logLength pathsLength cutLength =
+    refuse (ltb logLength (messageBytes * ((2 * k + 1) * steps))) Log
+    orElse refuse (ltb pathsLength (n - 2 + 3 * k) || ltb cutLength k) Lists
+
+unfoldable pub verdict : Call → Verdict
+verdict call =
+    let site = call .site in
+    mapVerdict (site .table) (site .n)
+    orElse pairVerdict (site .n) (site .S) (site .T) (call .k)
+    orElse roomVerdict (site .n) (call .k) (A site) (call .logLength) (call .pathsLength) (call .cutLength)

@@ -1,4 +1,6 @@
-// The words that the check of a call answers with. The definitions are in specs/.
+// The words that the check of a call answers with, and their numbers. The definitions are in specs/.
+ghost use mathlib.Core.Path.{_≡_};
+ghost use Rattle.refusals.specs.Refusals.{number, placeOf};
 
 // What the check of the table finds: no fault, or the place of the first bad cell in row order.
 pub enum Finding {
@@ -17,4 +19,38 @@ pub enum Verdict {
     Wanted,
     Log,
     Lists,
+}
+
+// Document 01's number of a verdict.
+pub fn number_of(verdict: Verdict) -> usize
+    ensures { λ r. ⌜ r ≡ number verdict ⌝ }
+{
+    match verdict {
+        Verdict::Accepted => 0,
+        Verdict::Radios => 1,
+        Verdict::TableLength => 2,
+        Verdict::Cell(_) => 3,
+        Verdict::Links => 4,
+        Verdict::Ends => 5,
+        Verdict::Wanted => 6,
+        Verdict::Log => 7,
+        Verdict::Lists => 8,
+    }
+}
+
+// Its place: only a bad cell has one.
+pub fn place_of(verdict: Verdict) -> usize
+    ensures { λ r. ⌜ r ≡ placeOf verdict ⌝ }
+{
+    match verdict {
+        Verdict::Accepted => 0,
+        Verdict::Radios => 0,
+        Verdict::TableLength => 0,
+        Verdict::Cell(place) => place,
+        Verdict::Links => 0,
+        Verdict::Ends => 0,
+        Verdict::Wanted => 0,
+        Verdict::Log => 0,
+        Verdict::Lists => 0,
+    }
 }

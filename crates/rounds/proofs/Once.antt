@@ -11,15 +11,15 @@ use Rattle.basics.proofs.Counting.{sum-ext, sum-update}
 use Rattle.rounds.proofs.Shows.{hit}
 
 -- half x may still send a PDT to half y
-abbrev pub Left : Type 0
-Left = ℕ → ℕ → Bool
+abbrev pub Unsent : Type 0
+Unsent = ℕ → ℕ → Bool
 
 -- all but that from h to y
-unfoldable pub without : ℕ → ℕ → Left → Left
+unfoldable pub without : ℕ → ℕ → Unsent → Unsent
 without h y left a b = left a b && not (eqb a h && eqb b y)
 
 -- how many are left between halves below the size
-abbrev pub remaining : ℕ → Left → ℕ
+abbrev pub remaining : ℕ → Unsent → ℕ
 remaining size left = sum (λ x. count (left x) size) size
 
 -- the two ends are these, or not
@@ -27,10 +27,10 @@ pub ends : (a b h y : ℕ) → Tells (eqb a h && eqb b y) ((a ≡ h) × (b ≡ y
 ends a b h y = tells-and _ _ (tells-equal a h) (tells-equal b y)
 
 -- a reply leaves every PDT that was left
-pub none-goes : (left : Left) (a b : ℕ) → 0 + oneIf (left a b) ≤ oneIf (left a b)
+pub none-goes : (left : Unsent) (a b : ℕ) → 0 + oneIf (left a b) ≤ oneIf (left a b)
 none-goes left a b = omega arith
 
-module _ (h y : ℕ) (left : Left) where
+module _ (h y : ℕ) (left : Unsent) where
   -- what is left without it was left before
   pub without-less : (a b : ℕ) → without h y left a b ≡ true → left a b ≡ true
   unfolding without

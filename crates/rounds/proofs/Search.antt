@@ -12,12 +12,12 @@ use Rattle.basics.specs.Counting.{First}
 use Rattle.basics.specs.Lists.{among, Different}
 use Rattle.basics.proofs.Bools.{clash, not-true→false, or-left, or-right, or-cases}
 use Rattle.basics.proofs.Lists.{among-nil, among-here, among-there, among-cases, among-one, among-neither}
-use Rattle.site.specs.Map.{Site, inHalf, outHalf}
-use Rattle.tokens.specs.Rules.{Marks, Entered, Waiting, nobody, waits, onlyS, justS, candidate, canTry}
+use Rattle.site.specs.Map.{inHalf, outHalf}
+use Rattle.tokens.specs.Rules.{Marks, Plan, Entered, Waiting, nobody, waits, onlyS, justS, candidate, canTry}
 use Rattle.menger.proofs.Network.{walkable, Way, Shut}
 use Rattle.routes.proofs.Trails.{networkOf}
-use Rattle.rounds.proofs.Order.{Ahead, Order}
-use Rattle.rounds.proofs.Once.{Left, without, without-less, without-this, without-other, without-cases}
+use Rattle.rounds.proofs.Order.{OrderOf, OpenPlace, open-walks, placed, same-place}
+use Rattle.rounds.proofs.Once.{Unsent, without, without-less, without-this, without-other, without-cases}
 
 -- the halves that wait, the last one first
 abbrev pub halvesOf : Waiting → List ℕ
@@ -35,69 +35,72 @@ with-cases y entered x e = go (or-cases (eqb x y) _ e)
     go (inl p) = inl (eqb-true x y p)
     go (inr p) = inr p
 
-module _ (site : Site) (marks : Marks) where
+module _ (plan : Plan) (marks : Marks) where
   -- ---- what holds
 
   -- half h may still send to those at its open places from place i on, and to no other
-  pub record Row (left : Left) (h i : ℕ) : Type 0 where
-    pub within : i ≤ site .n + 1
-    pub ahead : (y : ℕ) → left h y ≡ true → Ahead site marks h i y
-    pub still : (y : ℕ) → Ahead site marks h i y → left h y ≡ true
+  pub record Row (left : Unsent) (h i : ℕ) : Type 0 where
+    pub within : i ≤ plan .site .n + 1
+    pub ahead : (y : ℕ) → left h y ≡ true → OpenPlace plan marks h i y
+    pub still : (y : ℕ) → OpenPlace plan marks h i y → left h y ≡ true
 
-  abbrev pub Rows : Left → Waiting → Type 0
+  abbrev pub Rows : Unsent → Waiting → Type 0
   Rows left nobody = Unit
   Rows left (waits h i rest) = Row left h i × Rows left rest
 
   -- the half on top was reached from the one below it, and so on down to S
   abbrev pub Chain : Waiting → Type 0
   Chain nobody = ⊥
-  Chain (waits h i rest) = Way (networkOf site) marks h (halvesOf rest)
+  Chain (waits h i rest) = Way (networkOf (plan .site)) marks h (halvesOf rest)
 
   -- a search that has entered some halves and met these, and perhaps one more, to which a PDT is under way
-  pub record Search (entered met : Entered) (left : Left) (waiting : Waiting) : Type 0 where
+  pub record Search (entered met : Entered) (left : Unsent) (waiting : Waiting) : Type 0 where
     -- a PDT goes only over a step that can be walked
-    pub walks : (x y : ℕ) → left x y ≡ true → walkable (networkOf site) marks x y ≡ true
+    pub walks : (x y : ℕ) → left x y ≡ true → walkable (networkOf (plan .site)) marks x y ≡ true
     -- one that is not left has gone from an entered half to one that was met
-    pub tried : (x y : ℕ) → walkable (networkOf site) marks x y ≡ true → (left x y ≡ true) ⊎ ((entered x ≡ true) × (met y ≡ true))
+    pub tried : (x y : ℕ) → walkable (networkOf (plan .site)) marks x y ≡ true → (left x y ≡ true) ⊎ ((entered x ≡ true) × (met y ≡ true))
     -- an entered half that does not wait has none left
     pub done : (x y : ℕ) → entered x ≡ true → left x y ≡ true → among x (halvesOf waiting) ≡ true
     pub rows : Rows left waiting
     pub inside : (x : ℕ) → among x (halvesOf waiting) ≡ true → entered x ≡ true
     pub different : Different (halvesOf waiting)
-    pub goal-out : entered (inHalf (site .T)) ≡ false
+    pub goal-out : entered (inHalf (plan .site .T)) ≡ false
     pub chain : Chain waiting
 
   -- ---- rule 2: S's out half alone is entered, and searches
 
   -- a half that has tried nothing has all its places before it
-  whole-row : Order site → (left : Left) (h : ℕ) → ((y : ℕ) → left h y ≡ true → walkable (networkOf site) marks h y ≡ true) → ((y : ℕ) → walkable (networkOf site) marks h y ≡ true → left h y ≡ true) → Row left h 0
-  whole-row order left h walks all = record {
+  whole-row : OrderOf plan → (left : Unsent) (h : ℕ) → ((y : ℕ) → left h y ≡ true → walkable (networkOf (plan .site)) marks h y ≡ true) → ((y : ℕ) → walkable (networkOf (plan .site)) marks h y ≡ true → left h y ≡ true) → Row left h 0
+  whole-row ordered left h walks all = record {
     within = omega arith;
-    ahead = λ y e. order .placed marks h y (walks y e);
-    still = λ y a. all y (rw (a .leads) at (order .walks marks h (a .place) (a .opens)));
+    ahead = λ y e. placed ordered marks h y (walks y e);
+    still = λ y a. all y (rw (a .leads) at (open-walks (plan .site) marks h (plan .order (a .place)) (a .opens)));
   }
 
-  pub begins : Order site → Search (onlyS site) (onlyS site) (walkable (networkOf site) marks) (justS site)
-  begins order = record {
+  pub begins : OrderOf plan → Search (onlyS (plan .site)) (onlyS (plan .site)) (walkable (networkOf (plan .site)) marks) (justS (plan .site))
+  begins ordered = record {
     walks = λ x y e. e;
     tried = λ x y e. inl e;
     done = λ x y e l. rw (eqb-true x _ e) (among-here _ []);
-    rows = (whole-row order _ _ (λ y e. e) (λ y e. e), tt);
+    rows = (whole-row ordered _ _ (λ y e. e) (λ y e. e), tt);
     inside = λ x e. eq-eqb x _ (among-one x _ e);
     different = (not-true→false _ (among-nil _), tt);
-    goal-out = ne-eqb (inHalf (site .T)) (outHalf (site .S)) (λ e. omega arith);
+    goal-out = ne-eqb (inHalf (plan .site .T)) (outHalf (plan .site .S)) (λ e. omega arith);
     chain = refl;
   }
 
   -- ---- the half on top sends a PDT over its next place
 
-  module _ {entered : Entered} {left : Left} {h i : ℕ} {rest : Waiting} (search : Search entered entered left (waits h i rest)) {place : ℕ} (first : First (canTry site marks h) i (site .n + 1) place) (within : place < site .n + 1) where
+  module _ {entered : Entered} {left : Unsent} {h i : ℕ} {rest : Waiting} (search : Search entered entered left (waits h i rest)) {place : ℕ} (first : First (λ p. canTry (plan .site) marks h (plan .order p)) i (plan .site .n + 1) place) (within : place < plan .site .n + 1) where
     abbrev y : ℕ
-    y = candidate site h place
+    y = candidate (plan .site) h (plan .order place)
+
+    abbrev here : OpenPlace plan marks h i y
+    here = record { place = place; from = first .from; within = within; opens = first .found within; leads = refl }
 
     -- it was left
     pub was-left : left h y ≡ true
-    was-left = search .rows .0 .still y (record { place = place; from = first .from; within = within; opens = first .found within; leads = refl })
+    was-left = search .rows .0 .still y here
 
     rows-apart : (waiting : Waiting) → among h (halvesOf waiting) ≡ false → Rows left waiting → Rows (without h y left) waiting
     rows-apart nobody e rows = tt
@@ -113,30 +116,30 @@ module _ (site : Site) (marks : Marks) where
           still = λ z a. without-other h y left g z (λ u v. apart .0 (sym u)) ∙ before .still z a;
         }
 
-    row-next : Order site → Row (without h y left) h (suc place)
-    row-next order = record {
+    row-next : OrderOf plan → Row (without h y left) h (suc place)
+    row-next ordered = record {
       within = omega arith;
       ahead = λ z l. let a = search .rows .0 .ahead z (without-less h y left h z l) in record { place = a .place; from = later z l a (decLt _ _) (ℕ-discrete _ _); within = a .within; opens = a .opens; leads = a .leads };
       still = λ z a. without-other h y left h z (λ u v. other z a v) ∙ search .rows .0 .still z (record { place = a .place; from = omega (arith, a .from, first .from); within = a .within; opens = a .opens; leads = a .leads });
     }
       where
-        later : (z : ℕ) → without h y left h z ≡ true → (a : Ahead site marks h i z) → Dec (a .place < place) → Dec (a .place ≡ place) → suc place ≤ a .place
+        later : (z : ℕ) → without h y left h z ≡ true → (a : OpenPlace plan marks h i z) → Dec (a .place < place) → Dec (a .place ≡ place) → suc place ≤ a .place
         later z l a (yes p) q = clash (a .opens) (first .before (a .place) (a .from) p)
         later z l a (no p) (yes q) =
-            let same : z ≡ y = sym (a .leads) ∙ ap (candidate site h) q in
+            let same : z ≡ y = sym (a .leads) ∙ ap (λ p. candidate (plan .site) h (plan .order p)) q in
             clash l (rw same (without-this h y left))
         later z l a (no p) (no q) = omega arith
 
-        other : (z : ℕ) → Ahead site marks h (suc place) z → z ≡ y → ⊥
-        other z a e = omega (arith, a .from, order .once marks h (a .place) place (a .opens) (first .found within) (a .within) within (a .leads ∙ e))
+        other : (z : ℕ) → OpenPlace plan marks h (suc place) z → z ≡ y → ⊥
+        other z a e = omega (arith, a .from, same-place ordered marks h (record { place = a .place; from = a .from; within = a .within; opens = a .opens; leads = a .leads ∙ e }) here)
 
     -- now one PDT fewer is left, and the half it goes to is met
-    pub asked : Order site → Search entered (with y entered) (without h y left) (waits h (suc place) rest)
-    asked order = record {
+    pub asked : OrderOf plan → Search entered (with y entered) (without h y left) (waits h (suc place) rest)
+    asked ordered = record {
       walks = λ a b e. search .walks a b (without-less h y left a b e);
       tried = λ a b w. again a b (search .tried a b w);
       done = λ a b e l. search .done a b e (without-less h y left a b l);
-      rows = (row-next order, rows-apart rest (search .different .0) (search .rows .1));
+      rows = (row-next ordered, rows-apart rest (search .different .0) (search .rows .1));
       inside = search .inside;
       different = search .different;
       goal-out = search .goal-out;
@@ -155,7 +158,7 @@ module _ (site : Site) (marks : Marks) where
 
   -- it was entered before
   pub met-before :
-      {entered : Entered} {left : Left} {waiting : Waiting} {y : ℕ} → Search entered (with y entered) left waiting → entered y ≡ true
+      {entered : Entered} {left : Unsent} {waiting : Waiting} {y : ℕ} → Search entered (with y entered) left waiting → entered y ≡ true
       → Search entered entered left waiting
   met-before {entered} {left} {y = y} search before = record {
     walks = search .walks;
@@ -177,21 +180,21 @@ module _ (site : Site) (marks : Marks) where
       again a b (inr e) = inr (e .0, was b (with-cases y entered b (e .1)))
 
   -- it was not, so that it does not wait
-  pub new-to-all : {entered met : Entered} {left : Left} {waiting : Waiting} {y : ℕ} → Search entered met left waiting → entered y ≡ false → Different (y ∷ halvesOf waiting)
+  pub new-to-all : {entered met : Entered} {left : Unsent} {waiting : Waiting} {y : ℕ} → Search entered met left waiting → entered y ≡ false → Different (y ∷ halvesOf waiting)
   new-to-all {y = y} search new = (not-true→false _ (λ e. clash (search .inside y e) new), search .different)
 
   -- it is entered now, and searches
   pub enters :
-      Order site → {entered : Entered} {left : Left} {waiting : Waiting} {y : ℕ} → Search entered (with y entered) left waiting → entered y ≡ false → (y ≡ inHalf (site .T) → ⊥) → Way (networkOf site) marks y (halvesOf waiting)
+      OrderOf plan → {entered : Entered} {left : Unsent} {waiting : Waiting} {y : ℕ} → Search entered (with y entered) left waiting → entered y ≡ false → (y ≡ inHalf (plan .site .T) → ⊥) → Way (networkOf (plan .site)) marks y (halvesOf waiting)
       → Search (with y entered) (with y entered) left (waits y 0 waiting)
-  enters order {entered} {left} {waiting} {y} search new not-goal way = record {
+  enters ordered {entered} {left} {waiting} {y} search new not-goal way = record {
     walks = search .walks;
     tried = λ a b w. again a b (search .tried a b w);
     done = λ a b e l. waits-now a b l (with-cases y entered a e);
-    rows = (whole-row order left y (search .walks y) (λ z w. untried z (search .tried y z w)), search .rows);
+    rows = (whole-row ordered left y (search .walks y) (λ z w. untried z (search .tried y z w)), search .rows);
     inside = λ x e. in-now x (among-cases x y (halvesOf waiting) e);
     different = new-to-all search new;
-    goal-out = rw (ne-eqb (inHalf (site .T)) y (λ e. not-goal (sym e))) (search .goal-out);
+    goal-out = rw (ne-eqb (inHalf (plan .site .T)) y (λ e. not-goal (sym e))) (search .goal-out);
     chain = way;
   }
     where
@@ -215,10 +218,10 @@ module _ (site : Site) (marks : Marks) where
 
   -- no place of half h from i on is open
   abbrev pub NoneFrom : ℕ → ℕ → Type 0
-  NoneFrom h i = (place : ℕ) → i ≤ place → place < site .n + 1 → canTry site marks h place ≡ false
+  NoneFrom h i = (place : ℕ) → i ≤ place → place < plan .site .n + 1 → canTry (plan .site) marks h (plan .order place) ≡ false
 
   waits-below :
-      {entered : Entered} {left : Left} {h i : ℕ} {rest : Waiting} → Search entered entered left (waits h i rest) → NoneFrom h i
+      {entered : Entered} {left : Unsent} {h i : ℕ} {rest : Waiting} → Search entered entered left (waits h i rest) → NoneFrom h i
       → (x y : ℕ) → entered x ≡ true → left x y ≡ true → among x (halvesOf rest) ≡ true
   waits-below {left = left} {h} {rest = rest} search none x y e l = go (among-cases x h (halvesOf rest) (search .done x y e l))
     where
@@ -231,7 +234,7 @@ module _ (site : Site) (marks : Marks) where
 
   -- it replies PDT_B, and the half below it goes on
   pub gave-back :
-      {entered : Entered} {left : Left} {h i g j : ℕ} {rest : Waiting} → Search entered entered left (waits h i (waits g j rest)) → NoneFrom h i
+      {entered : Entered} {left : Unsent} {h i g j : ℕ} {rest : Waiting} → Search entered entered left (waits h i (waits g j rest)) → NoneFrom h i
       → Search entered entered left (waits g j rest)
   gave-back search none = record {
     walks = search .walks;
@@ -245,7 +248,7 @@ module _ (site : Site) (marks : Marks) where
   }
 
   -- it is S: the entered halves are closed
-  pub closes : {entered : Entered} {left : Left} {h i : ℕ} → Search entered entered left (waits h i nobody) → NoneFrom h i → Shut (networkOf site) marks entered
+  pub closes : {entered : Entered} {left : Unsent} {h i : ℕ} → Search entered entered left (waits h i nobody) → NoneFrom h i → Shut (networkOf (plan .site)) marks entered
   closes {entered} {left} {h} search none = record {
     closed = λ x y e w. go x y e (search .tried x y w);
     source-in = rw (← search .chain) (search .inside h (among-here h []));

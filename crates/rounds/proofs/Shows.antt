@@ -7,20 +7,20 @@ use Prim.Native.Nat.{ℕ, suc, _+_, _-_, _*_, _≤_, _<_}
 use lib.Dec.{eqb}
 use lib.ListN.{length}
 use Rattle.basics.specs.Counting.{oneIf}
-use Rattle.site.specs.Map.{Site, A}
+use Rattle.site.specs.Map.{A}
 use Rattle.tokens.specs.declared.Kind.{Kind}
 use Rattle.tokens.specs.declared.Kind.the-variants.{Pdt, PdtB, Pmt, Done}
 use Rattle.tokens.specs.declared.Message.{Message}
-use Rattle.tokens.specs.Rules.{Notes, State, won, sends, release, innerStep}
+use Rattle.tokens.specs.Rules.{Plan, Notes, State, won, sends, onlyS, justS, release, search, innerStep}
 use Rattle.tokens.specs.Run.{Entry, notesOf}
 use Rattle.menger.proofs.Network.{walkable, Walked, Shut}
 use Rattle.routes.proofs.Trails.{networkOf}
 
 -- from one state to another by inner steps that send this log
-abbrev pub Leads : Site → ℕ → State → List Entry → State → Type 0
-Leads site k state [] end = state ≡ end
-Leads site k state (entry ∷ log) end =
-    (next : State) × (innerStep site k state ≡ sends (entry .message) next) × (entry .round ≡ notesOf next .round) × Leads site k next log end
+abbrev pub Leads : Plan → State → List Entry → State → Type 0
+Leads plan state [] end = state ≡ end
+Leads plan state (entry ∷ log) end =
+    (next : State) × (innerStep plan state ≡ sends (entry .message) next) × (entry .round ≡ notesOf next .round) × Leads plan next log end
 
 -- messages that were all sent in this round
 abbrev pub inRound : ℕ → List Message → List Entry
@@ -65,31 +65,36 @@ Answered (m ∷ log) w = Due (m .kind) (m .from) (m .to) w × Answered log (dueA
 -- ---- a round
 
 -- it was won: one path more, and the marks of a walk from S to T turned
-pub record Won (site : Site) (notes : Notes) (end : State) : Type 0 where
+pub record Won (plan : Plan) (notes : Notes) (end : State) : Type 0 where
   pub after : Notes
   pub is-won : end ≡ won after
   pub same-round : after .round ≡ notes .round
   pub one-more : after .found ≡ suc (notes .found)
-  pub walked : Walked (networkOf site) (notes .marks) (after .marks)
+  pub walked : Walked (networkOf (plan .site)) (notes .marks) (after .marks)
 
 -- it was lost: S is about to send DONE; marks and counts stand, the entered halves are closed
-pub record Lost (site : Site) (k : ℕ) (state : State) (log : List Message) (notes : Notes) (end : State) : Type 0 where
+pub record Lost (plan : Plan) (state : State) (log : List Message) (notes : Notes) (end : State) : Type 0 where
   pub after : Notes
-  pub gives-up : innerStep site k end ≡ release site 0 after
+  pub gives-up : innerStep plan end ≡ release (plan .site) 0 after
   pub same-round : after .round ≡ notes .round
   pub same-found : after .found ≡ notes .found
   pub same-marks : after .marks ≡ notes .marks
-  pub shut : Shut (networkOf site) (notes .marks) (after .entered)
+  pub shut : Shut (networkOf (plan .site)) (notes .marks) (after .entered)
   -- the state tells these notes, unless nothing was sent
   pub told : ((log ≡ []) × (end ≡ state) × (after ≡ notes)) ⊎ (notesOf end ≡ after)
 
 -- a round that begins with these notes in this state
-pub record Played (site : Site) (k : ℕ) (state : State) (notes : Notes) : Type 0 where
+pub record Played (plan : Plan) (state : State) (notes : Notes) : Type 0 where
   pub log : List Message
   pub end : State
-  pub leads : Leads site k state (inRound (notes .round) log) end
-  pub few : length log ≤ 2 * A site
+  pub leads : Leads plan state (inRound (notes .round) log) end
+  pub few : length log ≤ 2 * A (plan .site)
   pub answered : Answered log (λ x y. 0)
   -- a PDT goes over walkable steps only, over each at most once; so no step carries two, in either direction
-  pub once : (x y : ℕ) → tokens x y log ≤ oneIf (walkable (networkOf site) (notes .marks) x y)
-  pub result : Won site notes end ⊎ Lost site k state log notes end
+  pub once : (x y : ℕ) → tokens x y log ≤ oneIf (walkable (networkOf (plan .site)) (notes .marks) x y)
+  pub result : Won plan notes end ⊎ Lost plan state log notes end
+
+-- each round of the plan does, from any state in which S's out half, alone entered, is about to search
+abbrev pub Plays : Plan → Type 0
+Plays plan =
+    (state : State) (notes : Notes) → innerStep plan state ≡ search plan notes (justS (plan .site)) → notes .entered ≡ onlyS (plan .site) → Played plan state notes

@@ -1,64 +1,68 @@
--- The bytes and sets that a run begins with stand for the start of the token rules. Assumes nothing.
-use mathlib.Core.Path.{_≡_, refl, ap, _∙_, subst, subst⁻¹, fun-ext}
-use mathlib.Core.Bool.{false, and-false}
+-- The rows and bytes that a run begins with stand for the start of the token rules. Assumes nothing.
+use mathlib.Core.Path.{_≡_, refl, sym, ap, ap₂, _∙_, subst, subst⁻¹}
+use mathlib.Core.Bool.{true, false≢true}
 use mathlib.Core.List.{List}
-use Prim.Native.Nat.{ℕ, zero, suc, _+_, _*_, _<_}
+use Prim.Native.Nat.{ℕ, suc, _+_, _*_, _<_}
 use native.Mathlib.Omega.{arith}
 use lib.Dec.{eqb}
-use lib.ListN.{getD, replicate}
-use Rattle.radios.proofs.Laws.{member-empty}
-use Rattle.site.specs.Map.{Site, outHalf}
-use Rattle.tokens.specs.Rules.{Marks, Entered, Waiting, State, searching, waits, nobody, onlyS, start}
+use lib.ListN.{getD}
+use borrow.Author.Tests.{lt-ltb}
+use Rattle.site.specs.Map.{Site, outHalf, step}
+use Rattle.tokens.specs.Rules.{Plan, Marks, Entered, Notes, State, searching, waits, nobody, unmarked, start}
 use Rattle.tokens.specs.Run.{runFrom}
+use Rattle.openings.specs.Rows.{Open}
+use Rattle.radios.specs.Links.{RowsOfLinks}
+use Rattle.openings.proofs.Turns.{marks-told}
+use Rattle.openings.proofs.Order.{untried-whole}
 use Rattle.machine.specs.declared.Task.{Task}
 use Rattle.machine.specs.declared.Stage.the-variants.{Searching}
-use Rattle.machine.specs.View.{Shows, Mirrors, marksOf, enteredOf, waitingOf, stateOf}
+use Rattle.machine.specs.declared.Machine.{Machine}
+use Rattle.machine.specs.View.{marksOf, enteredOf, stateOf}
 use Rattle.machine.specs.Sane.{Sane}
-use Rattle.machine.specs.Step.{Fits}
+use Rattle.machine.specs.Step.{Ready}
 use Rattle.running.specs.declared.Ran.{Ran}
-use Rattle.running.specs.Run.{Leaves}
-use Rattle.twos.proofs.Sane.{sane-start}
+use Rattle.running.specs.Run.{Leaves, Fresh}
+use Rattle.running.proofs.Sane.{sane-start}
 
--- every one of so many zeros is 0, and so is what lies past them
-zeros : (n i : ℕ) → _≡_ {A = ℕ} (getD (replicate n 0) i 0) 0
-zeros zero i = refl
-zeros (suc n) zero = refl
-zeros (suc n) (suc i) = zeros n i
+-- the rows are filled, and S's out half alone is entered
+module _ (task : Task) (links rows entered halves : List ℕ)
+    (filled : (site : Site) → site .n ≡ task .n → site .S ≡ task .s → site .T ≡ task .t → RowsOfLinks (site .table) (site .n) links → Open site unmarked rows) (only-S : enteredOf entered ≡ (λ x. eqb x (2 * task .s + 1))) where
+  abbrev Begin : Machine
+  Begin = record { stage = Searching; half = 2 * task .s + 1; other = 2 * task .s + 1; left = getD rows (2 * task .s + 1) 0; depth = 0; round = 1; found = 0 }
 
--- no step is marked
-no-marks : (n : ℕ) → marksOf (replicate n 0) ≡ (λ a b. false)
-no-marks n = fun-ext (λ a. fun-ext (λ b. rw (zeros n _, member-empty, and-false)))
+  abbrev Noted : ℕ → Marks → Entered → Notes
+  Noted found marks now = record { round = 1; found = found; marks = marks; entered = now }
 
-mirrored : (n : ℕ) → Mirrors (replicate n 0) (replicate n 0)
-mirrored n u v = rw (zeros n v, zeros n u, member-empty u, member-empty v)
+  module _ (plan : Plan) (fresh : Fresh plan task links) where
+    walks : Open (plan .site) unmarked rows
+    walks = filled (plan .site) (fresh .made .radios) (fresh .made .source) (fresh .made .sink) (fresh .made .linked)
 
-pub empty-mirrors : (marks into : List ℕ) → marks ≡ replicate 64 0 → into ≡ replicate 64 0 → Mirrors marks into
-empty-mirrors marks into e f u v = rw (e, f) (mirrored 64 u v)
+    no-marks : unmarked ≡ marksOf (plan .site) rows
+    no-marks = marks-told (plan .site) unmarked rows (λ a b e. absurd (false≢true e)) walks
 
--- round 1 begins
-abbrev standing : Marks → Entered → Waiting → State
-standing marks entered waiting = searching (record { round = 1; found = 0; marks = marks; entered = entered }) waiting
+    at-start : start plan ≡ stateOf (plan .site) 0 Begin rows entered halves
+    unfolding start
+    at-start =
+        let h = 2 * task .s + 1 in
+        rw (lt-ltb (plan .kept) (plan .k) (omega (arith, fresh .none-kept, fresh .wanted)))
+        (ap (λ (x : ℕ). searching (Noted (plan .kept) (plan .marks) (λ y. eqb y x)) (waits x 0 nobody)) (ap outHalf (fresh .made .source))
+        ∙ ap (λ (found : ℕ). searching (Noted found (plan .marks) (λ y. eqb y h)) (waits h 0 nobody)) (fresh .none-kept)
+        ∙ ap₂ (λ (marks : Marks) (now : Entered). searching (Noted 0 marks now) (waits h 0 nobody)) (fresh .none-marked ∙ no-marks) (sym only-S))
 
-module _ (task : Task) (marks entered halves places : List ℕ) (fits : Fits task)
-    (a : marks ≡ replicate 64 0) (b : enteredOf entered ≡ (λ h. eqb h (2 * task .s + 1))) (c : waitingOf halves places 1 ≡ waits (2 * task .s + 1) 0 nobody) where
-  -- what the machine stands for before its first step
-  abbrev pub begins : State
-  begins = stateOf (record { stage = Searching; half = 2 * task .s + 1; radio = 0; depth = 1; round = 1; found = 0 }) marks entered halves places
+    on-steps : (a b : ℕ) → plan .marks a b ≡ true → step (plan .site) a b ≡ true
+    on-steps a b e = absurd (false≢true (sym (ap (λ (marks : Marks). marks a b) (fresh .none-marked)) ∙ e))
 
-  -- it is the start of the token rules
-  stands-at-start : (site : Site) → site .S ≡ task .s → begins ≡ start site
-  stands-at-start site source =
-      ap (λ (m : Marks). standing m (enteredOf entered) (waitingOf halves places 1)) (ap marksOf a ∙ no-marks 64)
-      ∙ ap (λ (x : Entered). standing (λ u v. false) x (waitingOf halves places 1)) (b ∙ fun-ext (λ h. ap (eqb h) is-S))
-      ∙ ap (standing (λ u v. false) (onlyS site)) (c ∙ ap (λ (half : ℕ). waits half 0 nobody) is-S)
-    where
-      is-S : 2 * task .s + 1 ≡ outHalf (site .S)
-      is-S = omega arith
+    pub begin-ready : Ready plan 0 task Begin links rows entered halves
+    begin-ready =
+        let marked = subst (λ (marks : Marks). Open (plan .site) marks rows) no-marks walks in
+        record {
+          made = fresh .made;
+          walks = marked;
+          untried = untried-whole (plan .site) (marksOf (plan .site) rows) (2 * task .s + 1) rows marked;
+          sane = subst (Sane plan) at-start (sane-start plan (omega (arith, fresh .made .radios, fresh .made .source, fresh .made .fits .source)) on-steps (omega (arith, fresh .none-kept, fresh .wanted)));
+        }
 
-  pub begins-sane : (site : Site) (links : List ℕ) → Shows site task links → 0 < task .k → Sane site (task .k) begins
-  begins-sane site links shows wanted =
-      subst⁻¹ (λ (state : State). Sane site (task .k) state) (stands-at-start site (shows .source)) (sane-start site (omega (arith, shows .radios, shows .source, fits .source)) (task .k) wanted)
-
-  -- so the run from there is the whole run
-  pub begins-leaves : (site : Site) → site .S ≡ task .s → (budget : ℕ) {ran : Ran} {after before bytes : List ℕ} → Leaves (runFrom site (task .k) budget begins) ran after before bytes → Leaves (runFrom site (task .k) budget (start site)) ran after before bytes
-  begins-leaves site source budget {ran} {after} {before} {bytes} leaves = subst (λ (state : State). Leaves (runFrom site (task .k) budget state) ran after before bytes) (stands-at-start site source) leaves
+    -- so the run from there is the whole run
+    pub begin-leaves : (budget : ℕ) (ran : Ran) (after before bytes : List ℕ) → Leaves (runFrom plan budget (stateOf (plan .site) 0 Begin rows entered halves)) ran after before bytes
+        → Leaves (runFrom plan budget (start plan)) ran after before bytes
+    begin-leaves budget ran after before bytes leaves = subst⁻¹ (λ (state : State). Leaves (runFrom plan budget state) ran after before bytes) at-start leaves

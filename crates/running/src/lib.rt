@@ -1,22 +1,22 @@
-// The run that fills the log: the machine's inner steps, those that come in twos together and the others one after another,
-// until the run is over or the budget is spent.
+// The run that fills the log: the inner steps one after another, until the run is over or the budget is spent.
 ghost use mathlib.Core.Path.{_≡_};
-ghost use mathlib.Core.Bool.{false, cond};
-ghost use lib.ListN.{replicate};
-ghost use Rattle.site.specs.Map.{Site};
-ghost use Rattle.tokens.specs.Rules.{start};
+ghost use mathlib.Core.List.{List};
+ghost use Prim.Native.Nat.{ℕ};
+ghost use Rattle.tokens.specs.Rules.{Plan, start, message};
+ghost use Rattle.tokens.specs.declared.Kind.the-variants.{Pdt, PdtB};
 ghost use Rattle.tokens.specs.Run.{runFrom};
-ghost use Rattle.machine.specs.View.{Shows, isWon, enteredOf, stateOf};
+ghost use Rattle.log.specs.Bytes.{RoomFor};
+ghost use Rattle.machine.specs.declared.Task.{Task};
+ghost use Rattle.machine.specs.View.{stateOf};
 ghost use Rattle.machine.specs.Step.{Ready};
-ghost use Rattle.twos.specs.Talk.{atDepth};
-ghost use Rattle.running.specs.Run.{Leaves, LeavesFrom, Roomy, Runs};
+ghost use Rattle.running.specs.Progress.{Onward};
+ghost use Rattle.running.specs.Run.{isSearching, withLeft, Asks, Leaves, Fresh, Runs};
 use machine::Machine;
 use machine::Stage;
 use machine::Task;
 use tokens::Answer;
-
-// There are at most so many halves, two to a radio.
-const MOST_HALVES: usize = 128;
+use tokens::Kind;
+use tokens::Message;
 
 // What a run came to: the rounds started, the paths found, and the messages sent.
 pub struct Ran {
@@ -25,121 +25,134 @@ pub struct Ran {
     pub messages: usize,
 }
 
-// No radio in any row.
-pub fn no_radios() -> [u64; 64]
-    ensures { λ r. ⌜ r ≡ replicate 64 0 ⌝ }
-{
-    [0; 64]
+// What the half on top has left once it has asked in vain, and the messages sent.
+struct Vain {
+    left: u64,
+    sent: usize,
 }
 
-// A zero for each half.
-pub fn no_bytes() -> [u8; 128]
-    ensures { λ r. ⌜ r ≡ replicate 128 0 ⌝ }
-{
-    [0; 128]
-}
+// ---- PDTs in vain
 
-// ---- the halves entered in a round
-
-// The bytes for the halves entered are copied.
-fn copy(from: &[u8; 128], to: &mut [u8; 128])
-    ensures { λ r. ⌜ enteredOf (now (to .exit)) ≡ enteredOf (now (from .entry)) ⌝ }
+// A PDT between two halves.
+fn pdt(from: usize, to: usize) -> Message
+    ensures { λ r. ⌜ r ≡ message Pdt from to ⌝ }
 {
-    let f = &from[..];
-    let s = &mut to[..];
-    for i in 0..MOST_HALVES {
-        s[i] = f[i];
+    Message {
+        kind: Kind::Pdt,
+        from,
+        to,
     }
 }
 
-// The machine's own bytes are copied where a round is won: if the run is over then, the next round may have begun in them.
-fn keep(won: bool, own: &[u8; 128], entered: &mut [u8; 128])
-    ensures { λ r. ⌜ enteredOf (now (entered .exit)) ≡ cond won (enteredOf (now (own .entry))) (enteredOf (now (entered .entry))) ⌝ }
+// A PDT_B between two halves.
+fn pdt_b(from: usize, to: usize) -> Message
+    ensures { λ r. ⌜ r ≡ message PdtB from to ⌝ }
 {
-    if won {
-        copy(own, entered);
+    Message {
+        kind: Kind::PdtB,
+        from,
+        to,
     }
 }
 
-// At the end of a run they are copied unless a round is won.
-fn settle(won: bool, own: &[u8; 128], entered: &mut [u8; 128])
-    ensures { λ r. ⌜ enteredOf (now (entered .exit)) ≡ cond won (enteredOf (now (entered .entry))) (enteredOf (now (own .entry))) ⌝ }
+// Does a half search?
+fn is_searching(stage: Stage) -> bool
+    ensures { λ r. ⌜ r ≡ isSearching stage ⌝ }
 {
-    if won {
-        return;
+    match stage {
+        Stage::Searching => true,
+        Stage::Declining => false,
+        Stage::Granting => false,
+        Stage::Won => false,
+        Stage::Carrying => false,
     }
-    copy(own, entered);
+}
+
+// Nothing is sent.
+fn nothing(machine: Machine, sent: usize) -> Vain
+    ensures { λ r. ⌜ r ≡ record { left = machine .left; sent = sent } ⌝ }
+{
+    Vain {
+        left: machine.left,
+        sent,
+    }
+}
+
+// An out half on top asks those next in its order that were entered before: each PDT gets its PDT_B at once. These are inner
+// steps of the rules, two at a time, sent without going through the stages. Room for all of them is asked for once, before.
+fn asks_in_vain(
+    machine: Machine,
+    budget: usize,
+    sent: usize,
+    entered: &[u8; 128],
+    log: &mut [u8],
+) -> Vain
+    requires { ⌜ Asks machine budget sent (now log) ⌝ }
+    ensures { λ r. ⌜ ((task : Task) → Onward task budget (now (entered .entry)) (now (log .entry)) machine sent (now (log .exit)) (withLeft machine (r .left)) (r .sent)) ⌝ }
+{
+    let stage = machine.stage;
+    if !is_searching(stage) {
+        return nothing(machine, sent);
+    }
+    let h = machine.half;
+    if h % 2 == 0 {
+        return nothing(machine, sent);
+    }
+    if sent + site::MOST_HALVES >= budget {
+        return nothing(machine, sent);
+    }
+    let mut others = radios::without(machine.left, h / 2);
+    let own = radios::and_not(machine.left, others);
+    let mut at = sent;
+    while !radios::is_empty(others) {
+        let v = radios::first(others);
+        if !halves::is_entered(entered, 2 * v) {
+            break;
+        }
+        log::put(log, at, pdt(h, 2 * v), machine.round);
+        log::put(log, at + 1, pdt_b(2 * v, h), machine.round);
+        others = radios::without_first(others, v);
+        at += 2;
+    }
+    Vain {
+        left: radios::both(others, own),
+        sent: at,
+    }
 }
 
 // ---- the run
 
-// The same machine, but so many halves wait.
-fn at_depth(machine: Machine, depth: usize) -> Machine
-    ensures { λ r. ⌜ r ≡ atDepth machine depth ⌝ }
-{
-    let stage = machine.stage;
-    Machine {
-        stage,
-        half: machine.half,
-        radio: machine.radio,
-        depth,
-        round: machine.round,
-        found: machine.found,
-    }
-}
-
-// The run from where the machine stands: each message goes into the log with the round that it leaves the machine in. The
-// machine's own bytes for the halves entered are `own`; those of the last round are left in `entered`.
+// The run from where the machine stands: each message goes into the log with the round that it leaves the machine in.
 fn run_on(
     task: Task,
     begin: Machine,
     budget: usize,
     links: &[u64; 64],
-    marks: &mut [u64; 64],
-    into: &mut [u64; 64],
-    own: &mut [u8; 128],
-    halves: &mut [u8; 128],
-    places: &mut [u8; 128],
+    rows: &mut [u64; 128],
     entered: &mut [u8; 128],
+    halves: &mut [u8; 128],
     log: &mut [u8],
 ) -> Ran
-    requires { ⌜ Ready task begin (now links) (now marks) (now into) (now own) (now halves) (now places) ⌝ }
-    requires { ⌜ Roomy task budget (now log) ⌝ }
-    requires { ⌜ isWon (begin .stage) ≡ false ⌝ }
-    ensures { λ r. ⌜ LeavesFrom task budget (now (links .entry)) (stateOf begin (now (marks .entry)) (now (own .entry)) (now (halves .entry)) (now (places .entry))) r (now (entered .exit)) (now (log .entry)) (now (log .exit)) ⌝ }
+    requires { ⌜ ((plan : Plan) × Ready plan 0 task begin (now links) (now rows) (now entered) (now halves)) ⌝ }
+    requires { ⌜ RoomFor budget (now log) ⌝ }
+    ensures { λ r. ⌜ ((plan : Plan) → Ready plan 0 task begin (now (links .entry)) (now (rows .entry)) (now (entered .entry)) (now (halves .entry)) → Leaves (runFrom plan budget (stateOf (plan .site) 0 begin (now (rows .entry)) (now (entered .entry)) (now (halves .entry)))) r (now (entered .exit)) (now (log .entry)) (now (log .exit))) ⌝ }
 {
     let mut machine = begin;
     let mut sent = 0;
     while sent < budget {
-        let talked = twos::talk(
-            task,
-            machine,
-            budget,
-            sent,
-            links,
-            marks,
-            into,
-            own,
-            halves,
-            places,
-            log,
-        );
-        machine = at_depth(machine, talked.depth);
-        sent = talked.sent;
-        let stepped = machine::step(task, machine, links, marks, into, own, halves, places);
+        let vain = asks_in_vain(machine, budget, sent, entered, log);
+        machine = machine::with_left(machine, vain.left);
+        sent = vain.sent;
+        let stepped = machine::step(task, machine, links, rows, entered, halves);
         let answer = stepped.answer;
         let Answer::Sent(message) = answer else {
             break;
         };
         let next = stepped.machine;
-        twos::put(log, sent, message, next.round);
-        let stage = next.stage;
-        keep(machine::is_won(stage), own, entered);
+        log::put(log, sent, message, next.round);
         machine = next;
         sent += 1;
     }
-    let last = machine.stage;
-    settle(machine::is_won(last), own, entered);
     Ran {
         rounds: machine.round,
         found: machine.found,
@@ -157,21 +170,19 @@ pub fn run(
     log: &mut [u8],
 ) -> Ran
     requires { ⌜ Runs task budget (now links) (now log) ⌝ }
-    ensures { λ r. ⌜ ((site : Site) → Shows site task (now (links .entry)) → Leaves (runFrom site (task .k) budget (start site)) r (now (entered .exit)) (now (log .entry)) (now (log .exit))) ⌝ }
+    ensures { λ r. ⌜ ((plan : Plan) → Fresh plan task (now (links .entry)) → Leaves (runFrom plan budget (start plan)) r (now (entered .exit)) (now (log .entry)) (now (log .exit))) ⌝ }
 {
-    let mut marks = no_radios();
-    let mut into = no_radios();
-    let mut halves = no_bytes();
-    let mut places = no_bytes();
-    let mut own = no_bytes();
+    let mut rows = buffers::no_sets();
+    let mut halves = buffers::no_bytes();
+    openings::fill(task.n, task.s, task.t, links, &mut rows);
     let source = 2 * task.s + 1;
-    halves::enter_only(&mut own, source);
-    halves::push(&mut halves, &mut places, 0, source);
+    halves::enter_only(entered, source);
     let begin = Machine {
         stage: Stage::Searching,
         half: source,
-        radio: 0,
-        depth: 1,
+        other: source,
+        left: rows[source],
+        depth: 0,
         round: 1,
         found: 0,
     };
@@ -180,12 +191,9 @@ pub fn run(
         begin,
         budget,
         links,
-        &mut marks,
-        &mut into,
-        &mut own,
-        &mut halves,
-        &mut places,
+        &mut rows,
         entered,
+        &mut halves,
         log,
     )
 }

@@ -1,19 +1,17 @@
 -- How long a sheet can be: a caller that lends 512 bytes always has room. Assumes nothing.
-use mathlib.Core.Path.{_≡_, refl, sym, ap, _∙_, subst}
+use mathlib.Core.Path.{ap, subst}
 use mathlib.Core.Bool.{Bool, true, false, cond}
 use mathlib.Core.List.{List, [], _∷_, _++_}
 use Prim.Native.Nat.{ℕ, zero, suc, _+_, _*_, _≤_, _<_}
 use native.Mathlib.Omega.{arith}
 use lib.Dec.{eqb}
 use lib.ListN.{length, getD, take, length-append}
-use lib.Seq.{take-append-seam}
 use Rattle.basics.specs.Lists.{All}
 use Rattle.site.specs.Limits.{directLink}
 use Rattle.captures.specs.Words.{full, short, link}
 use Rattle.captures.specs.Text.{decimal}
-use Rattle.path_lists.specs.Bytes.{pathBytes}
+use Rattle.path_lists.specs.Bytes.{pathBytes, Holds}
 use Rattle.sheet_lines.specs.Lines.{refusedLine, reportLine, radioFields, pathLines, itemWord, cutLines}
-use Rattle.sheet_lines.specs.Written.{PathList}
 use Rattle.sheet_lines.proofs.Numbers.{digits-below-100, digits-below-1000, digits-below-100000}
 use Rattle.sheet_lines.proofs.Lines.{path-then, item-then, sheet-in-parts, refused-size, report-size, path-size, item-size}
 
@@ -111,10 +109,6 @@ sheet-fits capture all found rounds messages paths items m =
 
 -- ---- what a caller knows of the lists that it lends
 
--- a list that begins with the bytes of these paths
-pub path-list : (list : List ℕ) (paths : List (List ℕ)) (rest : List ℕ) → list ≡ pathBytes paths ++ rest → PathList list (length paths) paths
-path-list list paths rest e = record { counted = refl; stands = sym (take-append-seam (pathBytes paths) rest) ∙ ap (take (length (pathBytes paths))) (sym e) }
-
 -- every byte is small
 pub small-bytes : (list : List ℕ) → ((i : ℕ) → getD list i 0 < 256) → Small list
 small-bytes [] h = tt
@@ -134,5 +128,5 @@ unfolding pathBytes
 small-radios-of [] h = tt
 small-radios-of (radios ∷ paths) h = (small-apart radios (pathBytes paths) (h .1) .0, small-radios-of paths (small-apart radios (pathBytes paths) (h .1) .1))
 
-pub small-paths : {list : List ℕ} {count : ℕ} {paths : List (List ℕ)} → PathList list count paths → Small list → All Small paths
-small-paths {list} {count} {paths} p h = small-radios-of paths (subst Small (sym (p .stands)) (small-take (length (pathBytes paths)) list h))
+pub small-paths : {list : List ℕ} {count : ℕ} {paths : List (List ℕ)} → Holds list count paths → Small list → All Small paths
+small-paths {list} {count} {paths} p h = small-radios-of paths (subst Small (p .bytes) (small-take (length (pathBytes paths)) list h))

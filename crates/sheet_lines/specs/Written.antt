@@ -3,7 +3,7 @@ use mathlib.Core.Path.{_≡_}
 use mathlib.Core.List.{List, [], _++_}
 use Prim.Native.Nat.{ℕ, _+_, _≤_}
 use lib.ListN.{length, take, drop}
-use Rattle.path_lists.specs.Bytes.{pathBytes}
+use Rattle.path_lists.specs.Bytes.{Holds}
 use Rattle.sheet_lines.specs.Lines.{pathLines}
 
 -- the bytes stand in the buffer from `at` up to `next`, and all around them it is as it was
@@ -12,13 +12,8 @@ pub record Written (before after : List ℕ) (at : ℕ) (bytes : List ℕ) (next
   pub room : next ≤ length before
   pub left : after ≡ take at before ++ bytes ++ drop next before
 
--- the list starts with these paths, as many as the count says
-pub record PathList (list : List ℕ) (count : ℕ) (paths : List (List ℕ)) : Type 0 where
-  pub counted : length paths ≡ count
-  pub stands : pathBytes paths ≡ take (length (pathBytes paths)) list
-
--- some paths stand in the list, and the buffer has room for their lines
+-- the list holds some paths, and the buffer has room for their lines
 pub record Listed (out : List ℕ) (at : ℕ) (list : List ℕ) (count : ℕ) : Type 0 where
   pub paths : List (List ℕ)
-  pub listed : PathList list count paths
+  pub listed : Holds list count paths
   pub room : at + length (pathLines 1 paths []) ≤ length out

@@ -4,10 +4,11 @@ ghost use mathlib.Core.Bool.{cond};
 ghost use mathlib.Core.List.{List, _∷_, []};
 ghost use Prim.Native.Nat.{ℕ, _+_, _≤_};
 ghost use lib.ListN.{length, take};
+ghost use Rattle.path_lists.specs.Bytes.{Holds};
 ghost use Rattle.captures.specs.Words.{full, short};
 ghost use Rattle.captures.specs.Text.{decimal};
 ghost use Rattle.sheet_lines.specs.Lines.{field, refusedLine, reportLine, radioFields, pathLines, itemWord, cutLines};
-ghost use Rattle.sheet_lines.specs.Written.{Written, PathList, Listed};
+ghost use Rattle.sheet_lines.specs.Written.{Written, Listed};
 use captures::LINE_FEED;
 use captures::TAB;
 use site::DIRECT_LINK;
@@ -153,13 +154,14 @@ fn put_path(out: &mut [u8], at: usize, number: usize, radios: &[u8]) -> usize
 // The lines of the first `count` paths of a path list. Each path's radios are lent as a part of the list.
 pub fn put_paths(out: &mut [u8], at: usize, list: &[u8], count: usize) -> usize
     requires { ⌜ Listed (now out) at (now list) count ⌝ }
-    ensures { λ r. ⌜ ((paths : List (List ℕ)) → PathList (now (list .entry)) count paths → Written (now (out .entry)) (now (out .exit)) at (pathLines 1 paths []) r) ⌝ }
+    ensures { λ r. ⌜ ((paths : List (List ℕ)) → Holds (now (list .entry)) count paths → Written (now (out .entry)) (now (out .exit)) at (pathLines 1 paths []) r) ⌝ }
 {
     let mut next = at;
     let mut place = 0;
     for i in 0..count {
-        let start = place + 1;
-        let end = start + list[place] as usize;
+        let part = path_lists::part_at(list, place);
+        let start = part.start;
+        let end = part.end;
         next = put_path(out, next, i + 1, &list[start..end]);
         place = end;
     }

@@ -4,9 +4,10 @@ use mathlib.Core.List.{List}
 use Prim.Native.Nat.{ℕ}
 use native.Mathlib.Omega.{arith}
 use lib.ListN.{length, replicate}
-use Rattle.refusals.specs.Refusals.{Call, callOf, number, placeOf}
+use Rattle.refusals.specs.Refusals.{Call, callOf, verdict, number, placeOf}
+use Rattle.refusals.proofs.Accepted.{Room, accepted-valid, accepted-room}
+use Rattle.site.proofs.Valid.{Valid}
 use Rattle.refusals.specs.declared.Verdict.{Verdict}
-use Rattle.refusals.specs.declared.Verdict.the-variants.{Accepted, Radios, TableLength, Cell, Links, Ends, Wanted, Log, Lists}
 use Rattle.outcome.specs.declared.Outcome.{Outcome}
 use Rattle.outcome.specs.Leaves.{outcome}
 use Rattle.checks.specs.Checked.{Judged}
@@ -14,19 +15,7 @@ use Rattle.demands.specs.Demand1.{NothingLeft}
 use Rattle.demands.specs.Promise.{Promise}
 use Rattle.demands.proofs.First.{demand-1}
 use Rattle.demands.proofs.Demands.{demand-2, demand-3}
-use Rattle.survey.specs.Parts.{Given, Left}
-
--- the only verdict without a number is the one that accepts
-no-number : (v : Verdict) → number v ≡ 0 → v ≡ Accepted
-no-number Accepted e = refl
-no-number Radios e = absurd (omega arith)
-no-number TableLength e = absurd (omega arith)
-no-number (Cell place) e = absurd (omega arith)
-no-number Links e = absurd (omega arith)
-no-number Ends e = absurd (omega arith)
-no-number Wanted e = absurd (omega arith)
-no-number Log e = absurd (omega arith)
-no-number Lists e = absurd (omega arith)
+use Rattle.survey.specs.Parts.{Given, LeftBehind}
 
 module _ (n : ℕ) (table : List ℕ) (s t k : ℕ) (log paths cut rows : List ℕ) {answer : Verdict} (judged : Judged (callOf n table s t k (length log) (length paths) (length cut)) rows answer) where
   abbrev call : Call
@@ -46,15 +35,36 @@ module _ (n : ℕ) (table : List ℕ) (s t k : ℕ) (log paths cut rows : List �
       record {
         call = call;
         accepted = told ∙ accepted;
-        shows = record { radios = refl; source = refl; sink = refl; rows = judged .filled (no-number answer accepted) };
-        wanted = refl;
+        fresh = record {
+          made = record {
+            fits = record { few = valid .few-radios; source = valid .S-below; sink = valid .T-below; differ = valid .ends-differ; few-wanted = room .few-wanted };
+            radios = refl;
+            source = refl;
+            sink = refl;
+            wanted = refl;
+            order = refl;
+            linked = judged .rows-are accepted;
+          };
+          none-kept = refl;
+          none-marked = refl;
+          wanted = room .wanted;
+        };
         log-lent = refl;
         paths-lent = refl;
         cut-lent = refl;
       }
+    where
+      no-refusal : number (verdict call) ≡ 0
+      no-refusal = ap number (sym (judged .told)) ∙ accepted
+
+      valid : Valid (call .site)
+      valid = accepted-valid call no-refusal
+
+      room : Room call
+      room = accepted-room call no-refusal
 
   pub kept-accepted : {numbers : Outcome} {log′ paths′ cut′ : List ℕ} → number answer ≡ 0
-      → ((g : Given (record { n = n; s = s; t = t; k = k }) rows log paths cut) → Left (g .call) numbers log′ paths′ cut′) → Promise call numbers log′ paths′ cut′
+      → ((g : Given (record { n = n; s = s; t = t; k = k }) rows log paths cut) → LeftBehind (g .call) numbers log′ paths′ cut′) → Promise call numbers log′ paths′ cut′
   unfolding given
   kept-accepted {numbers} {log′} {paths′} {cut′} accepted leaves =
       record {
@@ -67,7 +77,7 @@ module _ (n : ℕ) (table : List ℕ) (s t k : ℕ) (log paths cut rows : List �
         demand-3 = demand-3 call;
       }
     where
-      left : Left call numbers log′ paths′ cut′
+      left : LeftBehind call numbers log′ paths′ cut′
       left = leaves (given accepted)
 
   pub kept-refused : {numbers : Outcome} {log′ paths′ cut′ : List ℕ} → (number answer ≡ 0 → ⊥)

@@ -9,47 +9,14 @@ ghost use Rattle.site.specs.Map.{Site};
 ghost use Rattle.refusals.specs.Refusals.{callOf, number, placeOf};
 ghost use Rattle.tokens.specs.Run.{cutOf};
 ghost use Rattle.buffers.specs.Zeros.{zerosAfter};
-ghost use Rattle.machine.specs.View.{enteredOf};
-ghost use Rattle.lists.specs.Cut.{Ends, Holds, Cuttable};
+ghost use Rattle.halves.specs.Bytes.{enteredOf};
+ghost use Rattle.path_lists.specs.Bytes.{Holds};
+ghost use Rattle.cut.specs.Cut.{Ends, Cuttable};
 ghost use Rattle.demands.specs.Promise.{Promise};
-ghost use Rattle.survey.specs.Parts.{Given, Left};
+ghost use Rattle.survey.specs.Parts.{Given, LeftBehind};
 use machine::Task;
 use outcome::Outcome;
 use refusals::Verdict;
-
-// Document 01's number of a verdict.
-fn number_of(verdict: Verdict) -> usize
-    ensures { λ r. ⌜ r ≡ number verdict ⌝ }
-{
-    match verdict {
-        Verdict::Accepted => 0,
-        Verdict::Radios => 1,
-        Verdict::TableLength => 2,
-        Verdict::Cell(_) => 3,
-        Verdict::Links => 4,
-        Verdict::Ends => 5,
-        Verdict::Wanted => 6,
-        Verdict::Log => 7,
-        Verdict::Lists => 8,
-    }
-}
-
-// Its place: only a bad cell has one.
-fn place_of(verdict: Verdict) -> usize
-    ensures { λ r. ⌜ r ≡ placeOf verdict ⌝ }
-{
-    match verdict {
-        Verdict::Accepted => 0,
-        Verdict::Radios => 0,
-        Verdict::TableLength => 0,
-        Verdict::Cell(place) => place,
-        Verdict::Links => 0,
-        Verdict::Ends => 0,
-        Verdict::Wanted => 0,
-        Verdict::Log => 0,
-        Verdict::Lists => 0,
-    }
-}
 
 // A refused call leaves zeros in every buffer lent for results, whatever they held.
 fn refused(verdict: Verdict, log: &mut [u8], paths: &mut [u8], cut: &mut [u8]) -> Outcome
@@ -62,8 +29,8 @@ fn refused(verdict: Verdict, log: &mut [u8], paths: &mut [u8], cut: &mut [u8]) -
     buffers::clear_from(paths, 0);
     buffers::clear_from(cut, 0);
     Outcome {
-        refusal: number_of(verdict),
-        place: place_of(verdict),
+        refusal: refusals::number_of(verdict),
+        place: refusals::place_of(verdict),
         paths: 0,
         rounds: 0,
         messages: 0,
@@ -76,7 +43,7 @@ fn leave_cut(task: Task, paths: &[u8], count: usize, entered: &[u8; 128], cut: &
     ensures { λ r. ⌜ ((site : Site) (ps : List (List ℕ)) → Ends (task .s) (task .t) site → Holds (now (paths .entry)) count ps → now (cut .exit) ≡ zerosAfter (length (now (cut .entry))) (cond (ltb count (task .k)) (cutOf site (enteredOf (now (entered .entry))) ps) [])) ⌝ }
 {
     if count < task.k {
-        lists::write_cut(paths, count, entered, task.s, task.t, cut);
+        cut::write_cut(paths, count, entered, task.s, task.t, cut);
         buffers::clear_from(cut, count);
         return;
     }
@@ -92,9 +59,9 @@ fn accepted(
     cut: &mut [u8],
 ) -> Outcome
     requires { ⌜ Given task (now links) (now log) (now paths) (now cut) ⌝ }
-    ensures { λ r. ⌜ ((given : Given task (now (links .entry)) (now (log .entry)) (now (paths .entry)) (now (cut .entry))) → Left (given .call) r (now (log .exit)) (now (paths .exit)) (now (cut .exit))) ⌝ }
+    ensures { λ r. ⌜ ((given : Given task (now (links .entry)) (now (log .entry)) (now (paths .entry)) (now (cut .entry))) → LeftBehind (given .call) r (now (log .exit)) (now (paths .exit)) (now (cut .exit))) ⌝ }
 {
-    let mut entered = running::no_bytes();
+    let mut entered = buffers::no_bytes();
     let ran = running::run(
         task,
         log.len() / log::MESSAGE_BYTES,
@@ -131,7 +98,7 @@ pub extern "C" fn fog_survey(
 ) -> Outcome
     ensures { λ r. ⌜ Promise (callOf n (now (table .entry)) s t k (length (now (log .entry))) (length (now (paths .entry))) (length (now (cut .entry)))) r (now (log .exit)) (now (paths .exit)) (now (cut .exit)) ⌝ }
 {
-    let mut links = running::no_radios();
+    let mut links = buffers::no_radios();
     let verdict = checks::judge(
         n,
         table,
@@ -143,7 +110,7 @@ pub extern "C" fn fog_survey(
         cut.len(),
         &mut links,
     );
-    if number_of(verdict) != 0 {
+    if refusals::number_of(verdict) != 0 {
         return refused(verdict, log, paths, cut);
     }
     let task = Task { n, s, t, k };

@@ -4,6 +4,7 @@ use mathlib.Core.Bool.{Bool, true, false, not, _||_, cond}
 use mathlib.Core.List.{List, [], _∷_}
 use mathlib.Core.Logic.{_⊎_, inl, inr}
 use Prim.Native.Nat.{ℕ, suc, _+_, _-_, _*_, _/_, _%_, _≤_, _<_}
+use native.Mathlib.Decide.{ℕ-discrete}
 use native.Mathlib.Nat.{div-add-mod', mul-le-mul}
 use native.Mathlib.Omega.{arith}
 use lib.Dec.{eqb, ltb}
@@ -11,16 +12,16 @@ use lib.ListN.{getD}
 use borrow.Author.Tests.{eq-eqb, eqb-true, ltb-true}
 use Rattle.basics.specs.Counting.{oneIf}
 use Rattle.basics.specs.Lists.{All}
+use Rattle.basics.specs.Numbered.{Gives}
 use Rattle.basics.proofs.Bools.{clash, both-ways, or-left, or-right, or-cases}
 use Rattle.basics.proofs.Counting.{some-counts}
-use Rattle.site.specs.Limits.{mostRadios}
+use Rattle.log.specs.Bytes.{messageBytes}
+use Rattle.site.specs.Limits.{mostRadios, mostLinks, mostPaths}
 use Rattle.site.specs.Map.{Site, degree, links, link, A}
 use Rattle.refusals.specs.Refusals.{Call, callOf, verdict, number}
-use Rattle.refusals.specs.Conditions.{Fault, no-bit, diagonal, mirror}
-use Rattle.refusals.specs.declared.Verdict.{Verdict}
-use Rattle.refusals.specs.declared.Verdict.the-variants.{Accepted, Radios, TableLength, Cell, Links, Ends, Wanted, Log, Lists}
+use Rattle.refusals.specs.Conditions.{Fault, no-bit, diagonal, mirror, conditions}
 use Rattle.site.proofs.Formula.{Even, steps-and-degrees}
-use Rattle.refusals.proofs.Exactly.{refused-exactly}
+use Rattle.refusals.proofs.Exactly.{call-exact}
 use Rattle.refusals.proofs.Accepted.{even-links}
 use Rattle.outcome.specs.Leaves.{outcome}
 use Rattle.captures.specs.Capture.{came, atFault, faultLine, tableOf}
@@ -149,50 +150,39 @@ module _ (n S T k : ℕ) (lines : List Line) (two : 2 ≤ n) (most : n ≤ mostR
   sound : (place : ℕ) → place < n * n → Fault (tableOf n lines) n place → ⊥
   sound = no-fault n lines (all-ordered n 1 [] lines good) (omega arith)
 
-  not-1 : number (verdict (lentCall n S T k lines)) ≡ 1 → ⊥
-  not-1 e = go (refused-exactly (lentCall n S T k lines) 0 .0 e .0)
-    where
-      go : (n < 2) ⊎ (64 < n) → ⊥
-      go (inl p) = omega arith
-      go (inr p) = omega arith
-
-  not-2 : number (verdict (lentCall n S T k lines)) ≡ 2 → ⊥
-  not-2 e = refused-exactly (lentCall n S T k lines) 1 .0 e .0 (table-of-long n lines)
-
-  not-3 : number (verdict (lentCall n S T k lines)) ≡ 3 → ⊥
-  not-3 e = let w = refused-exactly (lentCall n S T k lines) 2 .0 e .0 in sound (w .0) (w .1) (w .2)
+  not-1 : (n < 2) ⊎ (mostRadios < n) → ⊥
+  not-1 (inl p) = omega arith
+  not-1 (inr p) = omega arith
 
   -- 17 · 574 messages of four bytes are the 39,032 lent
-  not-7 : number (verdict (lentCall n S T k lines)) ≡ 7 → ⊥
-  not-7 e =
-      let first = refused-exactly (lentCall n S T k lines) 6 .0 e in
-      let few : 256 < links (tableOf n lines) n → ⊥ = first .1 3 (omega arith) in
-      let source : n ≤ S → ⊥ = λ p. first .1 4 (omega arith) (inl p) in
-      let sink : n ≤ T → ⊥ = λ p. first .1 4 (omega arith) (inr (inl p)) in
-      let wanted : 8 < k → ⊥ = λ p. first .1 5 (omega arith) (inr p) in
-      let steps = most-steps (lentCall n S T k lines .site) (omega arith) (omega arith) (λ d. first .1 4 (omega arith) (inr (inr d))) (even-links (tableOf n lines) n sound) in
+  not-7 : (mostLinks < links (tableOf n lines) n → ⊥) → ((n ≤ S) ⊎ (n ≤ T) ⊎ (S ≡ T) → ⊥) → (mostPaths < k → ⊥) → logLent < messageBytes * ((2 * k + 1) * A (lentCall n S T k lines .site)) → ⊥
+  not-7 few ends wanted long =
+      let source : n ≤ S → ⊥ = λ p. ends (inl p) in
+      let sink : n ≤ T → ⊥ = λ p. ends (inr (inl p)) in
+      let steps = most-steps (lentCall n S T k lines .site) (omega arith) (omega arith) (λ d. ends (inr (inr d))) (even-links (tableOf n lines) n sound) in
       let messages : (2 * k + 1) * A (lentCall n S T k lines .site) ≤ 17 * 574 = mul-le-mul {n₂ = 17} {m₂ = 574} (omega arith) (omega (arith, steps)) in
-      omega (arith, messages, first .0)
+      omega (arith, messages)
 
-  not-8 : number (verdict (lentCall n S T k lines)) ≡ 8 → ⊥
-  not-8 e = let first = refused-exactly (lentCall n S T k lines) 7 .0 e in go (λ p. first .1 5 (omega arith) (inr p)) (first .0)
-    where
-      go : (8 < k → ⊥) → (pathsLent < n - 2 + 3 * k) ⊎ (cutLent < k) → ⊥
-      go wanted (inl p) = omega arith
-      go wanted (inr p) = wanted p
+  not-8 : (mostPaths < k → ⊥) → (pathsLent < n - 2 + 3 * k) ⊎ (cutLent < k) → ⊥
+  not-8 wanted (inl p) = omega arith
+  not-8 wanted (inr p) = wanted p
+
+  -- the conditions from top to bottom
+  left : (r : ℕ) → Gives (conditions (lentCall n S T k lines)) r → (r ≡ 4) ⊎ (r ≡ 5) ⊎ (r ≡ 6)
+  left r (inl (e, c)) = absurd (not-1 c)
+  left r (inr (n1, inl (e, c))) = absurd (c (table-of-long n lines))
+  left r (inr (n1, inr (n2, inl (e, c)))) = absurd (sound (c .0) (c .1) (c .2))
+  left r (inr (n1, inr (n2, inr (n3, inl (e, c))))) = inl e
+  left r (inr (n1, inr (n2, inr (n3, inr (n4, inl (e, c)))))) = inr (inl e)
+  left r (inr (n1, inr (n2, inr (n3, inr (n4, inr (n5, inl (e, c))))))) = inr (inr e)
+  left r (inr (n1, inr (n2, inr (n3, inr (n4, inr (n5, inr (n6, inl (e, c)))))))) = absurd (not-7 n4 n5 (λ p. n6 (inr p)) c)
+  left r (inr (n1, inr (n2, inr (n3, inr (n4, inr (n5, inr (n6, inr (n7, inl (e, c))))))))) = absurd (not-8 (λ p. n6 (inr p)) c)
+  left r (inr (n1, inr (n2, inr (n3, inr (n4, inr (n5, inr (n6, inr (n7, inr (n8, none))))))))) = absurd none
 
   pub lends-enough : let r = outcome (callOf n (tableOf n lines) S T k logLent pathsLent cutLent) .refusal in (r ≡ 0) ⊎ (r ≡ 4) ⊎ (r ≡ 5) ⊎ (r ≡ 6)
   unfolding outcome
-  lends-enough = go (verdict (lentCall n S T k lines)) not-1 not-2 not-3 not-7 not-8
+  lends-enough = go (ℕ-discrete (number (verdict (lentCall n S T k lines))) 0)
     where
-      go : (v : Verdict) → (number v ≡ 1 → ⊥) → (number v ≡ 2 → ⊥) → (number v ≡ 3 → ⊥) → (number v ≡ 7 → ⊥) → (number v ≡ 8 → ⊥)
-          → (number v ≡ 0) ⊎ (number v ≡ 4) ⊎ (number v ≡ 5) ⊎ (number v ≡ 6)
-      go Accepted a b c d e = inl refl
-      go Radios a b c d e = absurd (a refl)
-      go TableLength a b c d e = absurd (b refl)
-      go (Cell place) a b c d e = absurd (c refl)
-      go Links a b c d e = inr (inl refl)
-      go Ends a b c d e = inr (inr (inl refl))
-      go Wanted a b c d e = inr (inr (inr refl))
-      go Log a b c d e = absurd (d refl)
-      go Lists a b c d e = absurd (e refl)
+      go : let r = number (verdict (lentCall n S T k lines)) in Dec (r ≡ 0) → (r ≡ 0) ⊎ (r ≡ 4) ⊎ (r ≡ 5) ⊎ (r ≡ 6)
+      go (yes e) = inl e
+      go (no some) = inr (left _ (call-exact (lentCall n S T k lines) .law .given _ some .0 refl))

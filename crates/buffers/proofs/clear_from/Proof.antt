@@ -13,33 +13,26 @@ Inv-loop bytes₀ from i₀ i-end bytes i = (from ≤ i) × (i ≤ length bytes�
 abbrev μ-loop : tie.MeasureT-loop
 μ-loop bytes₀ from i₀ i-end bytes i = length bytes₀ - i
 
+abbrev past : (P : tie.InvT-loop → tie.MeasureT-loop → Type 0) → P Inv-loop μ-loop → P Inv-loop μ-loop
+past P p = p
+
 loop-holds : tie.Need-loop-holds Inv-loop μ-loop
-loop-holds c = (omega arith, omega arith, refl, none-zeroed (c .args .bytes .now) (c .args .from))
-
-slice-write-bytes : tie.Need-slice-write-bytes Inv-loop μ-loop
-slice-write-bytes c = omega arith
-
-add-i : tie.Need-add-i Inv-loop μ-loop
-add-i c = omega arith
-
-loop-less : tie.Need-loop-less Inv-loop μ-loop
-loop-less c = omega arith
+loop-holds c =
+    let a = past tie.Start (search) .args in
+    (omega arith, omega arith, refl, none-zeroed (a .bytes .now) (a .from))
 
 loop-again : tie.Need-loop-again Inv-loop μ-loop
 loop-again c =
-    let l = c .before .loop in
-    (omega arith, omega arith, length-set (l .bytes) (l .i) _ ∙ l .inv .2, more-zeroed (c .before .before .args .bytes .now) (c .before .before .args .from) (l .bytes) (l .i) (l .inv .0) (omega arith) (l .inv .3))
-
-same-length : tie.Need-same-length Inv-loop μ-loop
-same-length c = c .before .loop .inv .2
+    let a = past tie.Start (search) .args in
+    let l = past tie.At-loop (search) .loop in
+    (omega arith, omega arith, length-set (l .bytes) (l .i) _ ∙ l .inv .2, more-zeroed (a .bytes .now) (a .from) (l .bytes) (l .i) (l .inv .0) (omega arith) (l .inv .3))
 
 returns : tie.Need-returns Inv-loop μ-loop
 returns c =
-    let old = c .before .before .args .bytes .now in
-    let from = c .before .before .args .from in
-    let l = c .before .loop in
-    let e : l .i ≡ length old = omega arith in
-    all-zeroed old from (l .bytes) (subst (λ (i : ℕ). Zeroed old from i (l .bytes)) e (l .inv .3))
+    let a = past tie.Start (search) .args in
+    let l = past tie.At-loop (search) .loop in
+    let end : l .i ≡ length (a .bytes .now) = omega arith in
+    all-zeroed (a .bytes .now) (a .from) (l .bytes) (subst (λ (i : ℕ). Zeroed (a .bytes .now) (a .from) i (l .bytes)) end (l .inv .3))
 
 pub clear-from-spec : {M : Type 1} → statement M
 clear-from-spec =
@@ -48,9 +41,9 @@ clear-from-spec =
     Inv-loop
     μ-loop
     loop-holds
-    slice-write-bytes
-    add-i
-    loop-less
+    (λ c. omega arith)
+    (λ c. omega arith)
+    (λ c. omega arith)
     loop-again
-    same-length
+    (λ c. past tie.At-loop (search) .loop .inv .2)
     returns)

@@ -23,7 +23,7 @@ returns c =
     let at = c .before .before .before .args in
     record {
       told = (λ e. absurd (false≢true e), λ sound. sym (not-true _ (c .if1 .taken)) ∙ c .before .all-bits .ensures .1 (sound-bits (at .table .now) (at .n) (c .before .before .before .pre .1) sound));
-      filled = λ e. absurd (false≢true e);
+      rows-are = λ e. absurd (false≢true e);
     }
 
 clear-requires : tie.Need-clear-requires Inv-loop μ-loop
@@ -50,7 +50,7 @@ returns-2 c =
     let l = c .before .before .before .before .before .loop in
     record {
       told = (λ e. absurd (false≢true e), λ sound. sym (not-true _ (c .if2 .taken)) ∙ c .before .agree-to .ensures .1 (sound-agrees (at .table .now) (at .n) (l .i) (l .rows) (c .before .before .before .row-of .result) (omega arith) (l .inv .1) (c .before .before .before .row-of .ensures) sound));
-      filled = λ e. absurd (false≢true e);
+      rows-are = λ e. absurd (false≢true e);
     }
 
 and-not-requires : tie.Need-and-not-requires Inv-loop μ-loop
@@ -78,7 +78,7 @@ returns-3 c =
     let e : l .i ≡ at .n = omega arith in
     let m = rw e at (l .inv .1) in
     let bits = c .before .before .before .before .before .all-bits .ensures .0 (not-false _ (c .before .before .before .before .if1 .left)) in
-    record { told = (λ t. mirrored-sound (at .table .now) (at .n) (l .rows) bits m, λ sound. refl); filled = λ t. mirrored-filled (at .table .now) (at .n) (l .rows) bits m }
+    record { told = (λ t. mirrored-sound (at .table .now) (at .n) (l .rows) bits m, λ sound. refl); rows-are = λ t. mirrored-filled (at .table .now) (at .n) (l .rows) bits m }
 
 pub gather-spec : {M : Type 1} → statement M
 gather-spec =

@@ -1,6 +1,7 @@
 -- `checks::spread` meets its contract. The loop's invariant: what `Spreading` says. Assumes nothing.
 use Prim.Native.Nat.{_-_}
 use native.Mathlib.Omega.{arith}
+use Rattle.site.specs.Limits.{mostRadios}
 use Rattle.checks.proofs.Spreading.{Spreading, spread-none, spread-more, spread-all}
 use Rattle.checks.proofs.spread.Statement.{statement}
 use Rattle.checks.proofs.spread.Tie as tie
@@ -9,43 +10,27 @@ abbrev Inv-loop : tie.InvT-loop
 Inv-loop rows₀ i row alone v₀ rows v = Spreading i row rows₀ rows v
 
 abbrev μ-loop : tie.MeasureT-loop
-μ-loop rows₀ i row alone v₀ rows v = 64 - v
+μ-loop rows₀ i row alone v₀ rows v = mostRadios - v
 
-widen-requires : tie.Need-widen-requires Inv-loop μ-loop
-widen-requires c κs = c .before .pre
-
-with-requires : tie.Need-with-requires Inv-loop μ-loop
-with-requires c κs = c .before .before .pre
-
-first-from-requires : tie.Need-first-from-requires Inv-loop μ-loop
-first-from-requires c κs = omega arith
+abbrev past : (P : tie.InvT-loop → tie.MeasureT-loop → Type 0) → P Inv-loop μ-loop → P Inv-loop μ-loop
+past P p = p
 
 loop-holds : tie.Need-loop-holds Inv-loop μ-loop
-loop-holds c = spread-none (c .before .before .before .before .args .i) (c .before .before .before .before .args .row) (c .before .before .widen .last .0) (c .first-from .result) (c .first-from .ensures)
-
-widen-requires-2 : tie.Need-widen-requires-2 Inv-loop μ-loop
-widen-requires-2 c κs = c .before .loop-test .taken
-
-add-first-from : tie.Need-add-first-from Inv-loop μ-loop
-add-first-from c = omega (arith, c .before .before .loop-test .taken)
-
-first-from-requires-2 : tie.Need-first-from-requires-2 Inv-loop μ-loop
-first-from-requires-2 c κs = omega (arith, c .before .before .loop-test .taken)
+loop-holds c = spread-none _ _ _ _ (past tie.After-first (search) .first .ensures)
 
 loop-less : tie.Need-loop-less Inv-loop μ-loop
-loop-less c = omega (arith, c .before .before .before .loop-test .taken, c .first-from2 .ensures .from, c .first-from2 .ensures .within)
+loop-less c =
+    let next = past tie.After-first-from (search) .first-from .ensures in
+    omega (arith, past tie.In-loop (search) .loop-test .taken, next .from, next .within)
 
 loop-again : tie.Need-loop-again Inv-loop μ-loop
 loop-again c =
-    let at = c .before .before .before .before .before .before .before .before .before .args in
-    let l = c .before .before .before .before .loop in
-    spread-more (at .i) (at .row) (c .before .before .before .before .before .before .before .widen .last .0) (l .rows) (c .before .widen2 .last .0) (l .v) (c .first-from2 .result) (c .before .before .before .before .before .before .with .result) (l .inv) (c .before .before .before .loop-test .taken) (c .first-from2 .ensures) (c .before .before .before .before .before .before .with .ensures) (c .before .widen2 .ensures)
+    spread-more _ _ _ _ _ _ _ _ (past tie.At-loop (search) .loop .inv) (past tie.In-loop (search) .loop-test .taken) (past tie.After-first-from (search) .first-from .ensures) (past tie.After-with (search) .with .ensures)
+    (past tie.After-widen2 (search) .widen2 .ensures)
 
 returns : tie.Need-returns Inv-loop μ-loop
 returns c =
-    let at = c .before .before .before .before .before .before .args in
-    let l = c .before .loop in
-    spread-all (at .i) (at .row) (c .before .before .before .before .widen .last .0) (at .rows .now) (l .rows) (l .v) (c .before .before .before .before .widen .ensures) (l .inv) (c .loop-test .left) (c .before .before .before .before .before .before .fits .row .fits)
+    spread-all _ _ _ (past tie.Start (search) .args .rows .now) _ _ (past tie.After-widen (search) .widen .ensures) (past tie.At-loop (search) .loop .inv) (past tie.After-loop (search) .loop-test .left) (past tie.Start (search) .fits .row .fits)
 
 pub spread-spec : {M : Type 1} → statement M
 spread-spec =
@@ -53,13 +38,13 @@ spread-spec =
     (tie.spec
     Inv-loop
     μ-loop
-    widen-requires
-    with-requires
-    first-from-requires
+    (λ c κs. past tie.Start (search) .pre)
+    (λ c κs. past tie.Start (search) .pre)
+    (λ c κs. tt)
     loop-holds
-    widen-requires-2
-    add-first-from
-    first-from-requires-2
+    (λ c κs. past tie.In-loop (search) .loop-test .taken)
+    (λ c. omega (arith, past tie.In-loop (search) .loop-test .taken))
+    (λ c κs. omega (arith, past tie.In-loop (search) .loop-test .taken))
     loop-less
     loop-again
     returns)

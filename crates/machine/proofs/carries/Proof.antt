@@ -1,77 +1,73 @@
 -- `machine::carries` meets its contract. Assumes nothing.
-use mathlib.Core.Path.{_≡_, ap, _∙_}
+use mathlib.Core.Path.{_≡_, sym, ap, _∙_}
 use Prim.Native.Nat.{ℕ, _/_}
-use native.Mathlib.Numerals.{add-one}
 use native.Mathlib.Omega.{arith}
-use borrow.Author.Tests.{eq-eqb, ne-eqb}
 use Rattle.site.specs.Map.{outHalf}
-use Rattle.tokens.specs.Rules.{innerStep, carry, nextMarked, passOn}
-use Rattle.machine.specs.View.{marksOf, notesIn}
+use Rattle.tokens.specs.Rules.{nextMarked}
+use Rattle.openings.proofs.Turns.{on-told}
+use Rattle.machine.specs.declared.Stage.the-variants.{Carrying}
+use Rattle.machine.specs.View.{marksOf}
+use Rattle.machine.proofs.Stages.{sane-in}
+use Rattle.machine.proofs.Replies.{carrying-releases, carrying-passes, carrying-inside, Carries, carries}
 use Rattle.machine.proofs.carries.Statement.{statement}
 use Rattle.machine.proofs.carries.Tie as tie
 
-mul-if1 : tie.Need-mul-if1
-mul-if1 c = omega arith
+abbrev past : (P : Type 0) → P → P
+past P p = p
+
+-- what the code leans on
+facts : (c : tie.Start) → Carries (c .args .task) (c .args .machine)
+facts c = carries (c .pre .1 .4) (c .pre .0)
 
 add-releases : tie.Need-add-releases
-add-releases c = omega arith
+add-releases c = let f = facts (past tie.Start (search)) in omega (arith, f .fits .few)
 
 releases-requires : tie.Need-releases-requires
-releases-requires c κs = omega arith
+releases-requires c κs = let f = facts (past tie.Start (search)) in (f .fits, omega arith)
 
 returns : tie.Need-returns
-unfolding innerStep carry
-returns c =
-    λ links entered halves places site shows sane.
-    simp (shows .sink, eq-eqb _ _ (c .before .if1 .taken), ← add-one) (c .releases .ensures site entered halves places (shows .radios) (shows .source))
+returns c = λ entered halves plan place ready.
+    let start = past tie.Start (search) in
+    carrying-releases ready (start .pre .0) (past tie.Then1 (search) .if1 .taken) (c .releases .result) (c .releases .ensures plan place entered halves (ready .made) (ready .walks) (ready .untried))
 
 next-marked-requires : tie.Need-next-marked-requires
-next-marked-requires c κs = omega arith
-
-pass-on-requires : tie.Need-pass-on-requires
-pass-on-requires c κs = omega arith
+next-marked-requires c κs = let f = facts (past tie.Start (search)) in omega (arith, f .fits)
 
 returns-2 : tie.Need-returns-2
-unfolding innerStep carry
-returns-2 c =
-    let at = c .before .before .before .before .before .args in
-    λ links entered halves places site shows sane.
-    let e : at .h ≡ outHalf (at .h / 2) = omega arith in
-    let w = ap (λ (h : ℕ). nextMarked site (marksOf (at .marks .now)) h 0) e ∙ c .before .next-marked .ensures site (shows .radios) in
-    simp (shows .sink, ne-eqb _ _ (c .before .before .before .if1 .left), eq-eqb _ _ (c .before .before .if2 .taken))
-    (ap (λ (w : ℕ). passOn site (at .h) (at .v) w (notesIn (at .machine) (at .marks .now) entered)) w ∙ c .pass-on .ensures site (at .marks .now) entered halves places (shows .radios))
+returns-2 c = λ entered halves plan place ready.
+    let start = past tie.Start (search) in
+    let at = start .args in
+    let site = plan .site in
+    let out = past tie.Then2 (search) .if2 .taken in
+    let is : outHalf (at .machine .half / 2) ≡ at .machine .half = omega arith in
+    let sane = sane-in ready Carrying (start .pre .0) in
+    let next = past tie.After-next-marked (search) .next-marked in
+    carrying-passes ready (start .pre .0) (past tie.Else1 (search) .if1 .left) out (next .result)
+    (ap (λ (h : ℕ). nextMarked site (marksOf site (at .rows .now)) h 0) (sym is)
+    ∙ next .ensures site (marksOf site (at .rows .now)) (ready .made .radios) (ready .made .source) (λ e. sane .3 (omega arith)) (ready .made .linked) (on-told site (at .rows .now)) (ready .walks))
+    (c .pass-on .result) (c .pass-on .ensures site place (at .rows .now) entered halves (ready .made .radios) (ready .untried))
 
 add-sent : tie.Need-add-sent
-add-sent c = omega arith
-
-add-carried : tie.Need-add-carried
-add-carried c = omega arith
-
-carried-requires : tie.Need-carried-requires
-carried-requires c κs = tt
-
-sent-requires : tie.Need-sent-requires
-sent-requires c κs = tt
+add-sent c = let f = facts (past tie.Start (search)) in omega (arith, f .fits .few)
 
 returns-3 : tie.Need-returns-3
-unfolding innerStep carry
-returns-3 c =
-    λ links entered halves places site shows sane.
-    simp (shows .sink, ne-eqb _ _ (c .before .before .before .if1 .left), ne-eqb _ _ (c .before .before .if2 .left), c .sent .ensures, c .before .carried .ensures)
+returns-3 c = λ entered halves plan place ready.
+    let there = past tie.After-moved (search) .moved in
+    carrying-inside ready (past tie.Start (search) .pre .0) (past tie.Else1 (search) .if1 .left) (past tie.Else2 (search) .if2 .left) (c .sent .result) (there .result) _ (there .ensures) (c .sent .ensures)
 
 pub carries-spec : {M : Type 1} → statement M
 carries-spec =
     tie.close
     (tie.spec
-    mul-if1
+    (λ c. let f = facts (past tie.Start (search)) in omega (arith, f .fits))
     add-releases
     releases-requires
     returns
     next-marked-requires
-    pass-on-requires
+    (λ c κs. let f = facts (past tie.Start (search)) in f .fits .few)
     returns-2
     add-sent
-    add-carried
-    carried-requires
-    sent-requires
+    add-sent
+    (λ c κs. tt)
+    (λ c κs. tt)
     returns-3)

@@ -1,34 +1,15 @@
 -- `machine::declines` meets its contract. Assumes nothing.
-use Prim.Native.Nat.{_-_}
-use native.Mathlib.Omega.{arith}
-use Rattle.machine.specs.View.{notesIn}
-use Rattle.machine.proofs.Stages.{declines-to}
+use Rattle.machine.proofs.Replies.{declining-replies}
 use Rattle.machine.proofs.declines.Statement.{statement}
 use Rattle.machine.proofs.declines.Tie as tie
 
-sub-top : tie.Need-sub-top
-sub-top c = omega arith
-
-element-copy-out-wide : tie.Need-element-copy-out-wide
-element-copy-out-wide c = omega arith
-
-wide-requires : tie.Need-wide-requires
-wide-requires c κs = tt
-
-moved-requires : tie.Need-moved-requires
-moved-requires c κs = tt
-
-sent-requires : tie.Need-sent-requires
-sent-requires c κs = tt
+abbrev past : (P : Type 0) → P → P
+past P p = p
 
 returns : tie.Need-returns
 returns c =
-    let at = c .before .before .before .before .before .args in
-    λ marks entered places.
-    simp (c .sent .ensures, c .before .moved .ensures)
-    (declines-to (at .y) (notesIn (at .machine) marks entered) (at .halves .now) places (at .machine .depth) (at .machine .depth - 1) (c .before .before .wide .result) (omega arith) (c .before .before .wide .ensures))
+    let there = past tie.After-moved (search) .moved in
+    λ task links rows entered halves plan place ready. declining-replies ready (past tie.Start (search) .pre) (c .sent .result) (there .result) _ (there .ensures) (c .sent .ensures)
 
 pub declines-spec : {M : Type 1} → statement M
-declines-spec =
-    tie.close
-    (tie.spec sub-top element-copy-out-wide wide-requires moved-requires sent-requires returns)
+declines-spec = tie.close (tie.spec (λ c κs. tt) (λ c κs. tt) returns)

@@ -1,77 +1,44 @@
 -- `machine::grants` meets its contract. Assumes nothing.
-use mathlib.Core.Path.{_≡_, ap, _∙_}
-use Prim.Native.Nat.{ℕ, _-_}
+use Prim.Native.Nat.{_-_}
 use native.Mathlib.Omega.{arith}
-use lib.ListN.{getD}
-use Rattle.machine.proofs.Stages.{grants-last, grants-on}
+use Rattle.machine.specs.View.{marksOf}
+use Rattle.machine.proofs.Replies.{Grants, grants, few-found, grant-joined, granting-wins, granting-goes-on}
 use Rattle.machine.proofs.grants.Statement.{statement}
 use Rattle.machine.proofs.grants.Tie as tie
 
--- the half on top, by its place
-on-top : (c : tie.After-wide) (top : ℕ) → c .before .before .before .args .machine .depth - 1 ≡ top → c .wide .result ≡ getD (c .before .before .before .args .halves .now) top 0
-on-top c top e = c .wide .ensures ∙ ap (λ (i : ℕ). getD (c .before .before .before .args .halves .now) i 0) e
+abbrev past : (P : Type 0) → P → P
+past P p = p
 
-sub-top : tie.Need-sub-top
-sub-top c = omega arith
+-- what the code leans on
+facts : (c : tie.Start) → Grants (c .args .machine)
+facts c = grants (c .pre .1 .5) (c .pre .0)
 
-element-copy-out-wide : tie.Need-element-copy-out-wide
-element-copy-out-wide c = omega arith
+turn-requires : tie.Need-turn-requires
+turn-requires c κs = let f = facts (past tie.Start (search)) in omega arith
 
-wide-requires : tie.Need-wide-requires
-wide-requires c κs = tt
-
-reverse-requires : tie.Need-reverse-requires
-reverse-requires c κs = let p = c .before .before .before .before .before .pre .on-top (c .before .before .before .before .before .args .machine .depth - 1) (omega arith) in omega (arith, c .before .before .wide .ensures)
-
-add-t17 : tie.Need-add-t17
-add-t17 c = omega arith
-
-sent-requires : tie.Need-sent-requires
-sent-requires c κs = tt
+add-t13 : tie.Need-add-t13
+add-t13 c = let start = past tie.Start (search) in omega (arith, few-found (start .pre .1 .5) (start .pre .0), start .pre .1 .5 .made .fits .few-wanted)
 
 returns : tie.Need-returns
-returns c =
-    let at = c .before .before .before .before .before .before .before .before .before .args in
-    record {
-      mirrors = c .before .before .before .reverse .ensures .mirrors;
-      granted = λ site top entered places deep joined.
-          let e : at .machine .depth - 1 ≡ top = omega arith in
-          let is-h = on-top (c .before .before .before .before .before .before) top e in
-          simp (c .sent .ensures)
-          (grants-last site (at .machine) (at .marks .now) (c .before .before .before .reverse .last .0) entered (at .halves .now) places (at .machine .depth - 1) (c .before .before .before .before .before .before .wide .result) (at .y) (omega arith) (c .before .before .before .before .before .before .wide .ensures)
-          (c .before .before .before .reverse .ensures .turned site (rw is-h joined)) (c .before .before .if1 .taken));
-    }
+returns c = λ task links entered plan place ready.
+    let start = past tie.Start (search) in
+    let at = start .args in
+    let turn = past tie.After-turn (search) .turn in
+    granting-wins ready (start .pre .0) (turn .last .0) (turn .ensures (plan .site) (marksOf (plan .site) (at .rows .now)) (grant-joined ready (start .pre .0)) (ready .walks)) (c .sent .result) (past tie.Then1 (search) .if1 .taken) (c .sent .ensures)
 
-moved-requires : tie.Need-moved-requires
-moved-requires c κs = tt
-
-sent-requires-2 : tie.Need-sent-requires-2
-sent-requires-2 c κs = tt
+element-copy-out-wide : tie.Need-element-copy-out-wide
+element-copy-out-wide c = let f = facts (past tie.Start (search)) in omega arith
 
 returns-2 : tie.Need-returns-2
-returns-2 c =
-    let at = c .before .before .before .before .before .before .before .before .before .args in
-    record {
-      mirrors = c .before .before .before .reverse .ensures .mirrors;
-      granted = λ site top entered places deep joined.
-          let e : at .machine .depth - 1 ≡ top = omega arith in
-          let is-h = on-top (c .before .before .before .before .before .before) top e in
-          simp (c .sent2 .ensures, c .before .moved .ensures)
-          (grants-on site (at .machine) (at .marks .now) (c .before .before .before .reverse .last .0) entered (at .halves .now) places (at .machine .depth - 1) (c .before .before .before .before .before .before .wide .result) (at .y) (omega arith) (c .before .before .before .before .before .before .wide .ensures)
-          (c .before .before .before .reverse .ensures .turned site (rw is-h joined)) (at .machine .depth - 1 - 1) (omega arith));
-    }
+returns-2 c = λ task links entered plan place ready.
+    let start = past tie.Start (search) in
+    let at = start .args in
+    let turn = past tie.After-turn (search) .turn in
+    let asker = past tie.After-wide (search) .wide in
+    let there = past tie.After-moved (search) .moved in
+    let some = past tie.Else1 (search) .if1 .left in
+    granting-goes-on ready (start .pre .0) (turn .last .0) (turn .ensures (plan .site) (marksOf (plan .site) (at .rows .now)) (grant-joined ready (start .pre .0)) (ready .walks))
+    (c .sent2 .result) (at .machine .depth - 1) (asker .result) (there .result) (omega arith) (asker .ensures) (there .ensures) (c .sent2 .ensures)
 
 pub grants-spec : {M : Type 1} → statement M
-grants-spec =
-    tie.close
-    (tie.spec
-    sub-top
-    element-copy-out-wide
-    wide-requires
-    reverse-requires
-    add-t17
-    sent-requires
-    returns
-    moved-requires
-    sent-requires-2
-    returns-2)
+grants-spec = tie.close (tie.spec turn-requires add-t13 (λ c κs. tt) returns (λ c. omega arith) element-copy-out-wide (λ c κs. tt) (λ c κs. tt) (λ c κs. tt) returns-2)

@@ -1,29 +1,23 @@
 -- `machine::pass_on` meets its contract. Assumes nothing.
 use native.Mathlib.Omega.{arith}
-use borrow.Author.Tests.{lt-ltb, le-ltb}
-use Rattle.tokens.specs.Rules.{passOn}
+use Rattle.tokens.specs.declared.Answer.the-variants.{End}
+use Rattle.machine.proofs.Replies.{passed, not-passed}
 use Rattle.machine.proofs.pass_on.Statement.{statement}
 use Rattle.machine.proofs.pass_on.Tie as tie
 
-mul-sent : tie.Need-mul-sent
-mul-sent c = omega arith
-
-mul-carried : tie.Need-mul-carried
-mul-carried c = omega arith
-
-carried-requires : tie.Need-carried-requires
-carried-requires c κs = tt
-
-sent-requires : tie.Need-sent-requires
-sent-requires c κs = tt
+abbrev past : (P : Type 0) → P → P
+past P p = p
 
 returns : tie.Need-returns
-unfolding passOn
-returns c = λ site marks entered halves places e. simp (e, lt-ltb _ _ (c .before .before .if1 .taken), c .sent .ensures, c .before .carried .ensures)
+returns c =
+    let at = past tie.Start (search) .args in
+    let there = past tie.After-moved (search) .moved in
+    λ site place rows entered halves radios untried. passed site (at .machine) (c .sent .result) rows entered halves (at .h) (at .v) (at .w) (there .result) _ (omega arith) (there .ensures) (c .sent .ensures)
 
 returns-2 : tie.Need-returns-2
-unfolding passOn
-returns-2 c = λ site marks entered halves places e. simp (e, le-ltb _ _ (c .if1 .left))
+returns-2 c =
+    let at = past tie.Start (search) .args in
+    λ site place rows entered halves radios untried. not-passed site (at .machine) (record { answer = End; machine = at .machine }) rows entered halves (at .h) (at .v) (at .w) place (omega arith) untried
 
 pub pass-on-spec : {M : Type 1} → statement M
-pass-on-spec = tie.close (tie.spec mul-sent mul-carried carried-requires sent-requires returns returns-2)
+pass-on-spec = tie.close (tie.spec (λ c. omega arith) (λ c. omega arith) (λ c κs. tt) (λ c κs. tt) returns returns-2)

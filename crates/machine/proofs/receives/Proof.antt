@@ -1,78 +1,53 @@
 -- `machine::receives` meets its contract. Assumes nothing.
-use mathlib.Core.Path.{sym, _∙_}
-use Prim.Native.Nat.{_+_, _<_}
+use mathlib.Core.Path.{sym, ap, _∙_}
 use native.Mathlib.Omega.{arith}
-use Rattle.machine.specs.View.{waitingOf}
-use Rattle.machine.proofs.Stages.{T-receives, entered-receives, new-receives}
+use borrow.Author.Needs.{needs}
+use Rattle.site.specs.Map.{inHalf}
+use Rattle.machine.proofs.Replies.{T-receives, entered-receives, new-receives}
 use Rattle.machine.proofs.receives.Statement.{statement}
 use Rattle.machine.proofs.receives.Tie as tie
 
--- a half that is not entered yet finds room
-has-room : (c : tie.Else2) → c .before .before .before .before .before .args .machine .depth < 128
-has-room c = c .before .before .before .before .before .pre .2 (sym (c .before .is-entered .ensures) ∙ c .if2 .left)
-
-mul-if1 : tie.Need-mul-if1
-mul-if1 c = omega arith
-
-enter-requires : tie.Need-enter-requires
-enter-requires c κs = omega arith
-
-moved-requires : tie.Need-moved-requires
-moved-requires c κs = tt
+abbrev past : (P : Type 0) → P → P
+past P p = p
 
 returns : tie.Need-returns
 returns c =
-    let at = c .before .before .before .before .before .args in
-    λ marks.
-    simp (c .moved .ensures)
-    (T-receives (at .machine) (at .to) (at .task .t) marks (at .entered .now) (c .before .enter .last .0) (waitingOf (at .halves .now) (at .places .now) (at .machine .depth)) (c .before .before .before .if1 .taken) (c .before .enter .ensures))
-
-is-entered-requires : tie.Need-is-entered-requires
-is-entered-requires c κs = omega arith
-
-moved-requires-2 : tie.Need-moved-requires-2
-moved-requires-2 c κs = tt
+    let at = past tie.Start (search) .args in
+    let enter = past tie.After-enter (search) .enter in
+    λ site sink walks untried.
+    T-receives site (at .machine) (c .moved .result) (at .y) (at .left) (at .rows .now) (at .entered .now) (enter .last .0) (at .halves .now) (past tie.Then1 (search) .if1 .taken ∙ ap inHalf (sym sink)) (enter .ensures) (c .moved .ensures)
 
 returns-2 : tie.Need-returns-2
 returns-2 c =
-    let at = c .before .before .before .before .before .before .args in
-    λ marks.
-    simp (c .moved2 .ensures)
-    (entered-receives (at .machine) (at .to) (at .task .t) marks (at .entered .now) (at .entered .now) (waitingOf (at .halves .now) (at .places .now) (at .machine .depth)) (c .before .before .before .before .if1 .left) (sym (c .before .before .is-entered .ensures) ∙ c .before .if2 .taken))
-
-enter-requires-2 : tie.Need-enter-requires-2
-enter-requires-2 c κs = omega arith
-
-push-requires : tie.Need-push-requires
-push-requires c κs = let room = has-room (c .before .before .before .before) in omega arith
-
-add-moved : tie.Need-add-moved
-add-moved c = let room = has-room (c .before .before .before .before .before .before) in omega arith
-
-moved-requires-3 : tie.Need-moved-requires-3
-moved-requires-3 c κs = tt
+    let at = past tie.Start (search) .args in
+    λ site sink walks untried.
+    entered-receives site (at .machine) (c .moved2 .result) (at .y) (at .left) (at .rows .now) (at .entered .now) (at .entered .now) (at .halves .now) (λ e. past tie.Else1 (search) .if1 .left (e ∙ ap inHalf sink))
+    (sym (past tie.After-is-entered (search) .is-entered .ensures) ∙ past tie.Then2 (search) .if2 .taken) untried (c .moved2 .ensures)
 
 returns-3 : tie.Need-returns-3
 returns-3 c =
-    let at = c .before .before .before .before .before .before .before .before .before .before .before .before .args in
-    λ marks.
-    simp (c .moved3 .ensures)
-    (new-receives (at .machine) (at .to) (at .task .t) marks (at .entered .now) (c .before .before .before .before .before .enter2 .last .0) (waitingOf (at .halves .now) (at .places .now) (at .machine .depth)) (c .before .before .before .before .before .before .before .before .before .before .if1 .left) (sym (c .before .before .before .before .before .before .before .before .is-entered .ensures) ∙ c .before .before .before .before .before .before .before .if2 .left) (c .before .before .before .before .before .enter2 .ensures)
-    (waitingOf (c .before .before .push .last .0) (c .before .before .push .last .1 .0) (at .machine .depth + 1)) (c .before .before .push .ensures))
+    let at = past tie.Start (search) .args in
+    let enter = past tie.After-enter2 (search) .enter2 in
+    let push = past tie.After-push (search) .push in
+    λ site sink walks untried.
+    new-receives site (at .machine) (c .moved3 .result) (at .y) (at .left) (at .rows .now) (at .entered .now) (enter .last .0) (at .halves .now) (push .last .0) (λ e. past tie.Else1 (search) .if1 .left (e ∙ ap inHalf sink))
+    (sym (past tie.After-is-entered (search) .is-entered .ensures) ∙ past tie.Else2 (search) .if2 .left) (enter .ensures) (push .ensures site (at .y)) walks (c .moved3 .ensures)
 
 pub receives-spec : {M : Type 1} → statement M
 receives-spec =
     tie.close
     (tie.spec
-    mul-if1
-    enter-requires
-    moved-requires
+    (λ c. omega arith)
+    (λ c κs. omega arith)
+    (λ c κs. tt)
     returns
-    is-entered-requires
-    moved-requires-2
+    (λ c κs. omega arith)
+    (λ c κs. tt)
     returns-2
-    enter-requires-2
-    push-requires
-    add-moved
-    moved-requires-3
+    (λ c κs. omega arith)
+    (λ c κs. omega arith)
+    (λ c. omega arith)
+    (λ c. omega arith)
+    (λ c. omega arith)
+    (λ c κs. tt)
     returns-3)

@@ -1,25 +1,24 @@
 -- `machine::releases` meets its contract. Assumes nothing.
+use mathlib.Core.Path.{_∙_}
 use native.Mathlib.Omega.{arith}
-use Rattle.tokens.specs.Rules.{release}
+use Rattle.openings.proofs.Turns.{on-told}
+use Rattle.machine.specs.View.{marksOf}
+use Rattle.machine.proofs.Replies.{released}
 use Rattle.machine.proofs.releases.Statement.{statement}
 use Rattle.machine.proofs.releases.Tie as tie
 
-next-marked-requires : tie.Need-next-marked-requires
-next-marked-requires c κs = omega arith
-
-mul-pass-on : tie.Need-mul-pass-on
-mul-pass-on c = omega arith
-
-add-pass-on : tie.Need-add-pass-on
-add-pass-on c = omega arith
-
-pass-on-requires : tie.Need-pass-on-requires
-pass-on-requires c κs = omega arith
+abbrev past : (P : Type 0) → P → P
+past P p = p
 
 returns : tie.Need-returns
-unfolding release
-returns c = λ site entered halves places e s. simp (s, c .before .before .next-marked .ensures site e) (c .pass-on .ensures site (c .before .before .before .args .marks .now) entered halves places e)
+returns c =
+    let at = past tie.Start (search) .args in
+    let next = past tie.After-next-marked (search) .next-marked in
+    λ plan place entered halves made walks untried.
+    let site = plan .site in
+    released site (at .machine) (c .pass-on .result) (at .rows .now) entered halves (at .v) (next .result) (at .task .s) (made .source)
+    (next .ensures site (marksOf site (at .rows .now)) (made .radios) (made .source) (λ e. made .fits .differ (e ∙ made .sink)) (made .linked) (on-told site (at .rows .now)) walks)
+    (c .pass-on .ensures site place (at .rows .now) entered halves (made .radios) untried)
 
 pub releases-spec : {M : Type 1} → statement M
-releases-spec =
-    tie.close (tie.spec next-marked-requires mul-pass-on add-pass-on pass-on-requires returns)
+releases-spec = tie.close (tie.spec (λ c κs. omega arith) (λ c. omega arith) (λ c. omega arith) (λ c κs. omega arith) returns)

@@ -3,9 +3,8 @@ use mathlib.Core.Path.{_≡_, refl, _∙_, subst}
 use mathlib.Core.Logic.{⊎-elim}
 use Prim.Native.Nat.{_-_, _≤_, _<_}
 use native.Mathlib.Omega.{arith}
-use borrow.Author.Tests.{eqb-true, eqb-false}
 use Rattle.paths.specs.Listing.{Silent}
-use Rattle.paths.proofs.Log.{no-done, within-radio}
+use Rattle.paths.proofs.Log.{no-done, within-radio, goes-to-out, is-other, arrives}
 use Rattle.paths.proofs.next_arrival.Statement.{statement}
 use Rattle.paths.proofs.next_arrival.Tie as tie
 
@@ -15,51 +14,36 @@ Inv-loop log from messages at₀ at = (from ≤ at) × (at ≤ messages) × Sile
 abbrev μ-loop : tie.MeasureT-loop
 μ-loop log from messages at₀ at = messages - at
 
-loop-holds : tie.Need-loop-holds Inv-loop μ-loop
-loop-holds c = (omega arith, omega arith, λ s site entries told. refl)
-
-mul-kind : tie.Need-mul-kind Inv-loop μ-loop
-mul-kind c = omega arith
-
-shared-slice-read-kind : tie.Need-shared-slice-read-kind Inv-loop μ-loop
-shared-slice-read-kind c = omega arith
-
-mul-to : tie.Need-mul-to Inv-loop μ-loop
-mul-to c = omega arith
-
-add-to : tie.Need-add-to Inv-loop μ-loop
-add-to c = omega arith
-
-shared-slice-read-to : tie.Need-shared-slice-read-to Inv-loop μ-loop
-shared-slice-read-to c = omega arith
+abbrev past : (P : tie.InvT-loop → tie.MeasureT-loop → Type 0) → P Inv-loop μ-loop → P Inv-loop μ-loop
+past P p = p
 
 returns : tie.Need-returns Inv-loop μ-loop
 returns c =
-    let l = c .before .before .before .before .before .loop in
-    record { after = l .inv .0; within = l .inv .1; arrives = λ below. record { done = c .before .if1 .taken; into = eqb-true _ 0 (c .if2 .taken) }; passed = l .inv .2 }
-
-add-at : tie.Need-add-at Inv-loop μ-loop
-add-at c = omega arith
-
-loop-less : tie.Need-loop-less Inv-loop μ-loop
-loop-less c = omega arith
+    let l = past tie.At-loop (search) .loop in
+    let log = past tie.Start (search) .args .log .now in
+    let read = past tie.After-message-at (search) .message-at .ensures in
+    let done = past tie.After-is-done (search) .is-done .ensures in
+    record { after = l .inv .0; within = l .inv .1; arrives = λ below. arrives log (l .at) read done (past tie.Then1 (search) .if1 .taken) (c .if2 .taken); passed = l .inv .2 }
 
 loop-again : tie.Need-loop-again Inv-loop μ-loop
 loop-again c =
-    let log = c .before .before .before .before .before .args .log .now in
-    let l = c .before .before .before .before .loop in
-    let below : l .at < c .before .before .before .before .before .args .messages = c .before .before .before .loop-test .taken in (
+    let l = past tie.At-loop (search) .loop in
+    let log = past tie.Start (search) .args .log .now in
+    let read = past tie.After-message-at (search) .message-at .ensures in
+    let done = past tie.After-is-done (search) .is-done .ensures in
+    let below : l .at < past tie.Start (search) .args .messages = omega arith in (
       omega arith,
       omega arith,
       λ s site entries told. l .inv .2 s site entries told ∙
-          ⊎-elim (λ w. within-radio log _ s site entries told (l .at) below (eqb-false _ 0 (w .1 .left))) (λ w. no-done log _ s site entries told (l .at) below (w .left)) (c .if1 .came),
+          ⊎-elim (λ w. within-radio told (l .at) below (goes-to-out log (l .at) read (w .2 .left))) (λ w. no-done told (l .at) below (is-other log (l .at) read done (w .left))) (c .if1 .came),
     )
 
 returns-2 : tie.Need-returns-2 Inv-loop μ-loop
 returns-2 c =
-    let l = c .before .loop in
-    let e : l .at ≡ c .before .before .args .messages = omega arith in
-    record { after = omega arith; within = omega arith; arrives = λ below. absurd (omega arith); passed = subst (Silent (c .before .before .args .log .now) (c .before .before .args .messages) (c .before .before .args .from)) e (l .inv .2) }
+    let l = past tie.At-loop (search) .loop in
+    let a = past tie.Start (search) .args in
+    let end : l .at ≡ a .messages = omega arith in
+    record { after = omega arith; within = omega arith; arrives = λ below. absurd (omega arith); passed = subst (Silent (a .log .now) (a .messages) (a .from)) end (l .inv .2) }
 
 pub next-arrival-spec : {M : Type 1} → statement M
 next-arrival-spec =
@@ -67,14 +51,11 @@ next-arrival-spec =
     (tie.spec
     Inv-loop
     μ-loop
-    loop-holds
-    mul-kind
-    shared-slice-read-kind
-    mul-to
-    add-to
-    shared-slice-read-to
+    (λ c. (omega arith, omega arith, λ s site entries told. refl))
+    (λ c κs. omega arith)
+    (λ c κs. tt)
     returns
-    add-at
-    loop-less
+    (λ c. omega arith)
+    (λ c. omega arith)
     loop-again
     returns-2)

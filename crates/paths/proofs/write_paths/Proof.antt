@@ -1,14 +1,15 @@
 -- `paths::write_paths` meets its contract. The loop's invariant: what `Halfway` says of the list. Assumes nothing.
-use mathlib.Core.Path.{_≡_, refl, _∙_}
+use mathlib.Core.Path.{_≡_, refl, sym, _∙_}
 use mathlib.Core.List.{List}
-use Prim.Native.Nat.{_+_, _*_, _-_, _≤_, _<_}
+use Prim.Native.Nat.{_-_, _≤_, _<_}
 use native.Mathlib.Omega.{arith}
 use borrow.Rule.Slice.PartMut.{same-len-mid}
 use lib.ListN.{length, drop, length-drop}
-use Rattle.site.specs.Map.{Site}
+use Rattle.site.specs.Map.{Site, outHalf}
 use Rattle.tokens.specs.Run.{Entry}
+use Rattle.log.specs.Read.{rawAt}
 use Rattle.paths.specs.Listing.{LogOf, Arrives, Startable}
-use Rattle.paths.proofs.Log.{log-room}
+use Rattle.paths.proofs.Log.{log-room, from-is}
 use Rattle.paths.proofs.AllPaths.{first-arrival, Halfway, none-listed, walks-here, none-starts, can-start, one-more-path, all-listed}
 use Rattle.paths.proofs.Tail.{tail-lent, tail-back}
 use Rattle.paths.proofs.write_paths.Statement.{statement}
@@ -16,131 +17,85 @@ use Rattle.paths.proofs.write_paths.Tie as tie
 
 abbrev Inv-loop : tie.InvT-loop
 Inv-loop log messages s paths₀ used₀ count₀ at₀ paths used count at =
-    (4 * messages ≤ length log)
-    × (count ≤ at)
+    (count ≤ at)
     × (at ≤ messages)
     × (length paths ≡ length paths₀)
-    × (at < messages → Arrives log at)
+    × (at < messages → Arrives (rawAt log at))
     × ((site : Site) (entries : List Entry) → LogOf log messages s site entries → Halfway paths₀ paths used count at site entries)
 
 abbrev μ-loop : tie.MeasureT-loop
 μ-loop log messages s paths₀ used₀ count₀ at₀ paths used count at = messages - at
 
-first-done-requires : tie.Need-first-done-requires Inv-loop μ-loop
-first-done-requires c κs = log-room _ _ _ _ _ (c .before .before .pre .told)
-
-next-arrival-requires : tie.Need-next-arrival-requires Inv-loop μ-loop
-next-arrival-requires c κs = (c .first-done .ensures .within, log-room _ _ _ _ _ (c .before .before .before .pre .told))
+abbrev past : (P : tie.InvT-loop → tie.MeasureT-loop → Type 0) → P Inv-loop μ-loop → P Inv-loop μ-loop
+past P p = p
 
 loop-holds : tie.Need-loop-holds Inv-loop μ-loop
-loop-holds c = (
-  log-room _ _ _ _ _ (c .before .before .before .before .pre .told),
-  omega arith,
-  c .next-arrival .ensures .within,
-  refl,
-  c .next-arrival .ensures .arrives,
-  λ site entries told. none-listed _ _ _ site entries told (c .before .before .before .before .args .paths .now) (c .next-arrival .result)
-      (first-arrival _ _ _ _ _ _ (c .before .before .before .before .pre) (c .before .first-done .ensures) (c .next-arrival .ensures)),
-)
+loop-holds c =
+    let found = past tie.After-next-arrival (search) .next-arrival .ensures in
+    let first = first-arrival (past tie.Start (search) .pre) (past tie.After-first-done (search) .first-done .ensures) found in
+    (omega arith, found .within, refl, found .arrives, λ site entries told. none-listed told (past tie.Start (search) .args .paths .now) first)
 
-mul-if1 : tie.Need-mul-if1 Inv-loop μ-loop
-mul-if1 c = omega arith
-
-add-if1 : tie.Need-add-if1 Inv-loop μ-loop
-add-if1 c = omega arith
-
-shared-slice-read-if1 : tie.Need-shared-slice-read-if1 Inv-loop μ-loop
-shared-slice-read-if1 c = omega arith
-
-cast-if1 : tie.Need-cast-if1 Inv-loop μ-loop
-cast-if1 c = omega (arith, c .shared-slice-known2 .given (4 * c .before .before .loop .at + 2))
-
-mul-if1-2 : tie.Need-mul-if1-2 Inv-loop μ-loop
-mul-if1-2 c = omega arith
-
-add-if1-2 : tie.Need-add-if1-2 Inv-loop μ-loop
-add-if1-2 c = omega arith
-
-add-next-arrival : tie.Need-add-next-arrival Inv-loop μ-loop
-add-next-arrival c = omega arith
-
-next-arrival-requires-2 : tie.Need-next-arrival-requires-2 Inv-loop μ-loop
-next-arrival-requires-2 c κs = (omega arith, c .before .before .before .loop .inv .0)
-
-loop-less : tie.Need-loop-less Inv-loop μ-loop
-loop-less c = omega arith
+-- ---- a DONE that S does not send
 
 loop-again : tie.Need-loop-again Inv-loop μ-loop
 loop-again c =
-    let at = c .before .before .before .before .before .before .before .before .before .args in
-    let l = c .before .before .before .before .loop in
-    let below : l .at < at .messages = c .before .before .before .loop-test .taken in (
-      l .inv .0,
-      omega (arith, c .next-arrival2 .ensures .after),
-      c .next-arrival2 .ensures .within,
-      l .inv .3,
-      c .next-arrival2 .ensures .arrives,
-      λ site entries told. none-starts (at .log .now) (at .messages) (at .s) site entries told (at .paths .now) (l .paths) (l .used) (l .count) (l .at) (l .inv .5 site entries told) (c .next-arrival2 .result) below
-          (l .inv .4 below) (c .before .if1 .taken) (c .next-arrival2 .ensures),
+    let log = past tie.Start (search) .args .log .now in
+    let l = past tie.At-loop (search) .loop in
+    let found = past tie.After-next-arrival2 (search) .next-arrival2 .ensures in
+    let read = past tie.After-message-at (search) .message-at .ensures in
+    let below = past tie.In-loop (search) .loop-test .taken in (
+      omega (arith, found .after),
+      found .within,
+      l .inv .2,
+      found .arrives,
+      λ site entries told. none-starts told (l .inv .4 site entries told) below (l .inv .3 below) (λ sent. past tie.Then1 (search) .if1 .taken (sym (from-is log (l .at) read) ∙ sent)) found,
     )
 
--- a path starts here, and the rest of the list has room for it
-ready : (c : tie.Else1 Inv-loop μ-loop) → Startable (c .before .before .before .before .before .before .before .before .args .log .now) (c .before .before .before .loop .at) (c .before .before .before .before .before .before .before .before .args .messages) (c .before .before .before .before .before .before .before .before .args .s) (drop (c .before .before .before .loop .used) (c .before .before .before .loop .paths))
-ready c =
-    let p = c .before .before .before .before .before .before .before .before .pre in
-    let l = c .before .before .before .loop in
-    let below = c .before .before .loop-test .taken in
-    can-start _ _ _ _ (l .paths) (l .used) (l .count) (l .at) p (l .inv .5 (p .site) (p .entries) (p .told)) (l .inv .3) below (l .inv .4 below) (c .if1 .left)
+-- ---- a path starts
 
-used-below : (c : tie.Else1 Inv-loop μ-loop) → c .before .before .before .loop .used < length (c .before .before .before .loop .paths)
+-- S sends the message
+sent : (c : tie.Else1 Inv-loop μ-loop) → let a = past tie.Start (search) .args in rawAt (a .log .now) (past tie.At-loop (search) .loop .at) .from ≡ outHalf (a .s)
+sent c = from-is (past tie.Start (search) .args .log .now) (past tie.At-loop (search) .loop .at) (past tie.After-message-at (search) .message-at .ensures) ∙ c .if1 .left
+
+-- and the rest of the list has room for the path
+ready : (c : tie.Else1 Inv-loop μ-loop) → let a = past tie.Start (search) .args in let l = past tie.At-loop (search) .loop in
+    Startable (a .log .now) (l .at) (a .messages) (a .s) (drop (l .used) (l .paths))
+ready c =
+    let p = past tie.Start (search) .pre in
+    let l = past tie.At-loop (search) .loop in
+    let below = past tie.In-loop (search) .loop-test .taken in
+    can-start p (l .inv .4 (p .site) (p .entries) (p .told)) (l .inv .2) below (l .inv .3 below) (sent (search))
+
+used-below : (c : tie.Else1 Inv-loop μ-loop) → let l = past tie.At-loop (search) .loop in l .used < length (l .paths)
 used-below c = omega (arith, simp length-drop at (ready c .room))
 
-sub-write-path : tie.Need-sub-write-path Inv-loop μ-loop
-sub-write-path c = omega (arith, used-below c)
-
-part-write-path-start : tie.Need-part-write-path-start Inv-loop μ-loop
-part-write-path-start c = omega (arith, used-below c)
-
-part-write-path-end : tie.Need-part-write-path-end Inv-loop μ-loop
-part-write-path-end c = omega (arith, used-below c)
-
 write-path-requires : tie.Need-write-path-requires Inv-loop μ-loop
-write-path-requires c κs = rw (tail-lent (c .before .before .before .before .loop .used) (c .before .before .before .before .loop .paths)) (ready (c .before))
+write-path-requires c κs =
+    let l = past tie.At-loop (search) .loop in
+    rw (tail-lent (l .used) (l .paths)) (ready (search))
 
 add-used : tie.Need-add-used Inv-loop μ-loop
 add-used c =
-    let r = ready (c .before .before .before .before .before) in
-    omega (arith, c .before .before .before .write-path .ensures .left (r .site) (r .entries) (r .path) (r .later) (r .walks) .used, simp length-drop at (r .room))
-
-add-count : tie.Need-add-count Inv-loop μ-loop
-add-count c = omega arith
-
-loop-less-2 : tie.Need-loop-less-2 Inv-loop μ-loop
-loop-less-2 c = omega arith
+    let r = ready (search) in
+    omega (arith, past tie.After-write-path (search) .write-path .ensures .left (r .site) (r .entries) (r .path) (r .later) (r .walks) .used, simp length-drop at (r .room))
 
 loop-again-2 : tie.Need-loop-again-2 Inv-loop μ-loop
 loop-again-2 c =
-    let at = c .before .before .before .before .before .before .before .before .before .before .before .before .before .args in
-    let l = c .before .before .before .before .before .before .before .before .loop in
-    let w = c .before .before .before .write-path in
-    let below = c .before .before .before .before .before .before .before .loop-test .taken in (
-      l .inv .0,
+    let l = past tie.At-loop (search) .loop in
+    let w = past tie.After-write-path (search) .write-path in
+    let below = past tie.In-loop (search) .loop-test .taken in (
       omega (arith, w .ensures .further),
       w .ensures .within,
-      same-len-mid (l .used) (length (l .paths) - l .used) (l .paths) (w .last .0) (w .kept .0) ∙ l .inv .3,
+      same-len-mid (l .used) (length (l .paths) - l .used) (l .paths) (w .last .0) (w .kept .0) ∙ l .inv .2,
       w .ensures .arrives,
       λ site entries told.
-          let walks = walks-here (at .log .now) (at .messages) (at .s) site entries told (l .at) below (l .inv .4 below) (c .before .before .before .before .before .if1 .left) in
+          let walks = walks-here told (l .at) below (l .inv .3 below) (sent (search)) in
           let left = rw (tail-lent (l .used) (l .paths)) at (w .ensures .left site entries _ _ walks) in
-          rw (tail-back (l .used) (l .paths) (w .last .0) (omega (arith, used-below (c .before .before .before .before .before))))
-          (one-more-path (at .log .now) (at .messages) (at .s) site entries told (at .paths .now) (l .paths) (l .used) (l .count) (l .at) (l .inv .5 site entries told) _ _ walks (w .last .0) (w .result) left),
+          rw (tail-back (l .used) (l .paths) (w .last .0) (omega (arith, used-below (search)))) (one-more-path told (l .inv .4 site entries told) walks left),
     )
 
-same-length : tie.Need-same-length Inv-loop μ-loop
-same-length c = c .before .loop .inv .3
-
 returns : tie.Need-returns Inv-loop μ-loop
-returns c = λ site entries told. all-listed (c .before .before .before .before .before .before .args .log .now) _ _ site entries told (c .before .before .before .before .before .before .args .paths .now) (c .before .loop .paths) (c .before .loop .used) (c .before .loop .count) (c .before .loop .at) (c .loop-test .left) (c .before .loop .inv .5 site entries told)
+returns c = λ site entries told. all-listed told (past tie.At-loop (search) .loop .inv .4 site entries told) (c .loop-test .left)
 
 pub write-paths-spec : {M : Type 1} → statement M
 write-paths-spec =
@@ -148,26 +103,24 @@ write-paths-spec =
     (tie.spec
     Inv-loop
     μ-loop
-    first-done-requires
-    next-arrival-requires
+    (λ c κs. log-room (past tie.Start (search) .pre .told))
+    (λ c κs. (past tie.After-first-done (search) .first-done .ensures .within, log-room (past tie.Start (search) .pre .told)))
     loop-holds
-    mul-if1
-    add-if1
-    shared-slice-read-if1
-    cast-if1
-    mul-if1-2
-    add-if1-2
-    add-next-arrival
-    next-arrival-requires-2
-    loop-less
+    (λ c κs. omega (arith, log-room (past tie.Start (search) .pre .told)))
+    (λ c. omega arith)
+    (λ c. omega arith)
+    (λ c. omega arith)
+    (λ c. omega (arith, log-room (past tie.Start (search) .pre .told)))
+    (λ c κs. (omega arith, log-room (past tie.Start (search) .pre .told)))
+    (λ c. omega arith)
     loop-again
-    sub-write-path
-    part-write-path-start
-    part-write-path-end
+    (λ c. omega (arith, used-below (search)))
+    (λ c. omega (arith, used-below (search)))
+    (λ c. omega (arith, used-below (search)))
     write-path-requires
     add-used
-    add-count
-    loop-less-2
+    (λ c. omega arith)
+    (λ c. omega arith)
     loop-again-2
-    same-length
+    (λ c. past tie.At-loop (search) .loop .inv .2)
     returns)

@@ -1,72 +1,52 @@
 -- `running::run` meets its contract. Assumes nothing.
-use mathlib.Core.Path.{refl}
-use Rattle.running.proofs.Start.{empty-mirrors, begins-sane, begins-leaves}
+use mathlib.Core.List.{List}
+use Prim.Native.Nat.{ℕ}
 use borrow.Author.Needs.{needs}
+use Rattle.running.proofs.Start.{begin-ready, begin-leaves}
 use Rattle.running.proofs.run.Statement.{statement}
 use Rattle.running.proofs.run.Tie as tie
 
-no-radios-requires : tie.Need-no-radios-requires
-no-radios-requires c κs = search needs
+abbrev past : (P : Type 0) → P → P
+past P p = p
 
-no-radios-requires-2 : tie.Need-no-radios-requires-2
-no-radios-requires-2 c κs = search needs
+-- the rows and bytes at the start
+abbrev rows′ : tie.After-fill → List ℕ
+rows′ c = c .fill .last .1 .1 .1 .1 .0
 
-no-bytes-requires : tie.Need-no-bytes-requires
-no-bytes-requires c κs = search needs
-
-no-bytes-requires-2 : tie.Need-no-bytes-requires-2
-no-bytes-requires-2 c κs = search needs
-
-no-bytes-requires-3 : tie.Need-no-bytes-requires-3
-no-bytes-requires-3 c κs = search needs
-
-mul-source : tie.Need-mul-source
-mul-source c = search needs
-
-add-source : tie.Need-add-source
-add-source c = search needs
-
-enter-only-requires : tie.Need-enter-only-requires
-enter-only-requires c κs = search needs
-
-push-requires : tie.Need-push-requires
-push-requires c κs = search needs
+abbrev entered′ : tie.After-enter-only → List ℕ
+entered′ c = c .enter-only .last .0
 
 run-on-requires : tie.Need-run-on-requires
 run-on-requires c κs =
-    let asked = c .before .before .before .before .before .before .before .before .before .before .before .before .before .before .before .before .before .before .before .pre in
-    let marks = c .before .before .before .before .before .before .before .before .before .before .before .before .before .before .before .before .before .no-radios .ensures in
-    let into = c .before .before .before .before .before .before .before .before .before .before .before .before .before .before .before .before .no-radios2 .ensures in
-    let own = c .before .before .before .before .before .before .before .before .before .before .enter-only in
-    let waiting = c .before .before .before .before .before .before .before .push in
-    let sane = begins-sane _ _ (own .last .0) (waiting .last .0) (waiting .last .1 .0) (asked .fits) marks (own .ensures) (waiting .ensures) (asked .site) _ (asked .shows) (asked .wanted) in
-    (record { fits = asked .fits; site = asked .site; shows = asked .shows; mirrors = empty-mirrors _ _ marks into; sane = sane }, (asked .roomy, refl))
-
-same-length : tie.Need-same-length
-same-length c = search needs
+    let start = past tie.Start (search) in
+    let fill = past tie.After-fill (search) in
+    let enter = past tie.After-enter-only (search) in
+    let halves = past tie.After-no-bytes (search) .no-bytes .result in
+    ((start .pre .plan, begin-ready (start .args .task) (start .args .links .now) (rows′ fill) (entered′ enter) halves (fill .fill .ensures) (enter .enter-only .ensures) (start .pre .plan) (start .pre .fresh)), start .pre .room)
 
 returns : tie.Need-returns
-returns c = λ site shows.
-    let asked = c .before .before .before .before .before .before .before .before .before .before .before .before .before .before .before .before .before .before .before .before .before .before .pre in
-    let marks = c .before .before .before .before .before .before .before .before .before .before .before .before .before .before .before .before .before .before .before .before .no-radios .ensures in
-    let own = c .before .before .before .before .before .before .before .before .before .before .before .before .before .enter-only in
-    let waiting = c .before .before .before .before .before .before .before .before .before .before .push in
-    begins-leaves _ _ (own .last .0) (waiting .last .0) (waiting .last .1 .0) (asked .fits) marks (own .ensures) (waiting .ensures) site (shows .source) _
-    (c .before .before .run-on .ensures site shows (begins-sane _ _ (own .last .0) (waiting .last .0) (waiting .last .1 .0) (asked .fits) marks (own .ensures) (waiting .ensures) site _ shows (asked .wanted)))
+returns c =
+    let run = past tie.After-run-on (search) in
+    let fill = past tie.After-fill (search) in
+    let enter = past tie.After-enter-only (search) in
+    let halves = past tie.After-no-bytes (search) .no-bytes .result in
+    let at = past tie.Start (search) .args in
+    λ plan fresh.
+    begin-leaves (at .task) (at .links .now) (rows′ fill) (entered′ enter) halves (fill .fill .ensures) (enter .enter-only .ensures) plan fresh _ _ _ _ _
+    (run .run-on .ensures plan (begin-ready (at .task) (at .links .now) (rows′ fill) (entered′ enter) halves (fill .fill .ensures) (enter .enter-only .ensures) plan fresh))
 
 pub run-spec : {M : Type 1} → statement M
 run-spec =
     tie.close
     (tie.spec
-    no-radios-requires
-    no-radios-requires-2
-    no-bytes-requires
-    no-bytes-requires-2
-    no-bytes-requires-3
-    mul-source
-    add-source
-    enter-only-requires
-    push-requires
+    (λ c κs. search needs)
+    (λ c κs. search needs)
+    (λ c κs. search needs)
+    (λ c. search needs)
+    (λ c. search needs)
+    (λ c κs. search needs)
+    (λ c. search needs)
+    (λ c. search needs)
     run-on-requires
-    same-length
+    (λ c. search needs)
     returns)

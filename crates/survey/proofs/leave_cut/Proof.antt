@@ -1,68 +1,41 @@
+-- `survey::leave_cut` meets its contract. Assumes nothing.
 use mathlib.Core.Path.{sym, _∙_}
 use borrow.Author.Needs.{needs}
 use native.Mathlib.Omega.{arith}
 use lib.ListN.{length-map}
 use Rattle.tokens.specs.Run.{itemOf, cutOf}
-use Rattle.machine.specs.View.{enteredOf}
+use Rattle.halves.specs.Bytes.{enteredOf}
 use Rattle.survey.proofs.Tails.{leave-short, leave-full}
 use Rattle.survey.proofs.leave_cut.Statement.{statement}
 use Rattle.survey.proofs.leave_cut.Tie as tie
-use Rattle.survey.proofs.leave_cut.Reads as reads
-use Rattle.survey.proofs.leave_cut.Lts as lts
-use Rattle.lists.proofs.clear_from.Reads as clear-from-reads
-use Rattle.lists.proofs.write_cut.Reads as write-cut-reads
 
--- src/lib.rt:73:9
-write-cut-requires : tie.Need-write-cut-requires
-write-cut-requires c κs = search needs
+abbrev past : (P : Type 0) → P → P
+past P p = p
 
--- src/lib.rt:74:9
-clear-from-requires : tie.Need-clear-from-requires
-clear-from-requires c κs = search needs
-
--- src/lib.rt:75:9
-same-length : tie.Need-same-length
-same-length c = search needs
-
--- src/lib.rt:75:9
 returns : tie.Need-returns
 returns c = λ site ps ends held.
-    let a = c .before .before .before .before .before .before .before .before .before .before .before .before in
+    let start = past tie.Start (search) in
+    let at = start .args in
+    let write = past tie.After-write-cut (search) .write-cut in
+    let clear = past tie.After-clear-from (search) .clear-from in
     leave-short
-    (cutOf site (enteredOf (a .args .entered .now)) ps)
-    (a .args .cut .now)
-    (c .before .before .before .before .before .before .write-cut .last .1 .1 .1 .1 .1 .0)
-    (c .before .before .clear-from .last .0)
-    (a .args .count)
-    (a .args .task .k)
+    (cutOf site (enteredOf (at .entered .now)) ps)
+    (at .cut .now)
+    (write .last .1 .1 .1 .1 .1 .0)
+    (clear .last .0)
+    (at .count)
+    (at .task .k)
     (omega arith)
-    (c .before .before .before .before .before .before .write-cut .ensures site ps ends held)
-    (sym (length-map ps (itemOf site (enteredOf (a .args .entered .now))) ∙ held .number))
-    (a .pre .room)
-    (c .before .before .clear-from .ensures)
+    (write .ensures site ps ends held)
+    (sym (length-map ps (itemOf site (enteredOf (at .entered .now))) ∙ held .number))
+    (start .pre .room)
+    (clear .ensures)
 
--- src/lib.rt:77:5
-clear-from-requires-2 : tie.Need-clear-from-requires-2
-clear-from-requires-2 c κs = search needs
-
--- src/lib.rt:68:1
-same-length-2 : tie.Need-same-length-2
-same-length-2 c = search needs
-
--- src/lib.rt:68:1
 returns-2 : tie.Need-returns-2
 returns-2 c = λ site ps ends held.
-    let a = c .before .before .before .before .before .before .before .before in
-    leave-full (cutOf site (enteredOf (a .args .entered .now)) ps) (a .args .cut .now) (c .before .before .clear-from2 .last .0) (a .args .count) (a .args .task .k) (omega arith) (c .before .before .clear-from2 .ensures)
+    let at = past tie.Start (search) .args in
+    let clear = past tie.After-clear-from2 (search) .clear-from2 in
+    leave-full (cutOf site (enteredOf (at .entered .now)) ps) (at .cut .now) (clear .last .0) (at .count) (at .task .k) (omega arith) (clear .ensures)
 
 pub leave-cut-spec : {M : Type 1} → statement M
-leave-cut-spec =
-    tie.close
-    (tie.spec
-    write-cut-requires
-    clear-from-requires
-    same-length
-    returns
-    clear-from-requires-2
-    same-length-2
-    returns-2)
+leave-cut-spec = tie.close (tie.spec (λ c κs. search needs) (λ c κs. search needs) (λ c. search needs) returns (λ c κs. search needs) (λ c. search needs) returns-2)

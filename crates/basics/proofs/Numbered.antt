@@ -1,0 +1,104 @@
+-- The law of numbered conditions holds for every list that is put together of tests. Assumes nothing.
+use mathlib.Core.Path.{_≡_, refl, sym, _∙_}
+use mathlib.Core.Bool.{Bool, true, false, cond, false≢true}
+use mathlib.Core.List.{List, [], _∷_, _++_, map}
+use mathlib.Core.Logic.{_⊎_, inl, inr}
+use Prim.Native.Nat.{ℕ}
+use lib.Dec.{eqb}
+use borrow.Author.Tests.{eqb-true, eqb-false, eq-eqb}
+use Rattle.basics.specs.Lists.{among}
+use Rattle.basics.specs.Numbered.{Conditions, Gives, NoneHolds, Lawful}
+use Rattle.basics.proofs.Bools.{Tells, clash}
+use Rattle.basics.proofs.Lists.{among-neither}
+
+-- ---- one list after another
+
+pub none-both : (list next : Conditions) → NoneHolds list → NoneHolds next → NoneHolds (list ++ next)
+none-both [] next p q = q
+none-both (first ∷ rest) next p q = (p .0, none-both rest next (p .1) q)
+
+pub none-parts : (list next : Conditions) → NoneHolds (list ++ next) → NoneHolds list × NoneHolds next
+none-parts [] next p = (tt, p)
+none-parts (first ∷ rest) next p = let parts = none-parts rest next (p .1) in ((p .0, parts .0), parts .1)
+
+gives-first : (list next : Conditions) (c : ℕ) → Gives list c → Gives (list ++ next) c
+gives-first [] next c g = absurd g
+gives-first (first ∷ rest) next c (inl own) = inl own
+gives-first (first ∷ rest) next c (inr later) = inr (later .0, gives-first rest next c (later .1))
+
+gives-next : (list next : Conditions) (c : ℕ) → NoneHolds list → Gives next c → Gives (list ++ next) c
+gives-next [] next c none g = g
+gives-next (first ∷ rest) next c none g = inr (none .0, gives-next rest next c (none .1) g)
+
+-- a number is given by the first list, or by the second where none of the first holds
+pub gives-parts : (list next : Conditions) (c : ℕ) → Gives (list ++ next) c → Gives list c ⊎ (NoneHolds list × Gives next c)
+gives-parts [] next c g = inr (tt, g)
+gives-parts (first ∷ rest) next c (inl own) = inl (inl own)
+gives-parts (first ∷ rest) next c (inr later) = go (gives-parts rest next c (later .1))
+  where
+    go : Gives rest c ⊎ (NoneHolds rest × Gives next c) → Gives (first ∷ rest) c ⊎ (NoneHolds (first ∷ rest) × Gives next c)
+    go (inl g) = inl (inr (later .0, g))
+    go (inr p) = inr ((later .0, p .0), p .1)
+
+-- a number that stands nowhere in a list is not given by it
+pub not-given : (list : Conditions) (c : ℕ) → among c (map (λ (condition : ℕ × Type 0). condition .0) list) ≡ false → Gives list c → ⊥
+not-given [] c absent g = g
+not-given (first ∷ rest) c absent (inl own) = among-neither c (first .0) _ absent .0 (own .0)
+not-given (first ∷ rest) c absent (inr later) = not-given rest c (among-neither c (first .0) _ absent .1) (later .1)
+
+-- ---- the law, for answers of any kind that have a number
+
+module _ {Answer : Type 0} (number : Answer → ℕ) where
+  -- one condition, told by a test: the answer v where it holds, else one without a number
+  pub law-one : (v none : Answer) (b : Bool) {P : Type 0} → (number v ≡ 0 → ⊥) → number none ≡ 0 → Tells b P → Lawful number ((number v, P) ∷ []) (cond b v none)
+  law-one v none true {P} some zero tells =
+      record {
+        given = λ c apart. (λ e. inl (sym e, tells .0 refl), own c);
+        none = (λ e. absurd (some e), λ none-holds. absurd (none-holds .0 (tells .0 refl)));
+      }
+    where
+      own : (c : ℕ) → Gives ((number v, P) ∷ []) c → number v ≡ c
+      own c (inl g) = sym (g .0)
+      own c (inr g) = absurd (g .1)
+  law-one v none false {P} some zero tells =
+      record {
+        given = λ c apart. (λ e. absurd (apart (sym e ∙ zero)), λ g. absurd (own c g));
+        none = (λ e. (λ p. false≢true (tells .1 p), tt), λ none-holds. zero);
+      }
+    where
+      own : (c : ℕ) → Gives ((number v, P) ∷ []) c → ⊥
+      own c (inl g) = false≢true (tells .1 (g .1))
+      own c (inr g) = g .1
+
+  -- one list after another: the second's answer stands where the first's has no number
+  pub law-after : {list next : Conditions} {v w : Answer} → Lawful number list v → Lawful number next w → Lawful number (list ++ next) (cond (eqb (number v) 0) w v)
+  law-after {list} {next} {v} {w} first second = go (eqb (number v) 0) refl
+    where
+      go : (b : Bool) → eqb (number v) 0 ≡ b → Lawful number (list ++ next) (cond b w v)
+      go true e =
+          record {
+            given = λ c apart. (λ told. gives-next list next c empty (second .given c apart .0 told), λ g. from-next c apart (gives-parts list next c g));
+            none = (λ told. none-both list next empty (second .none .0 told), λ none-holds. second .none .1 (none-parts list next none-holds .1));
+          }
+        where
+          zero : number v ≡ 0
+          zero = eqb-true (number v) 0 e
+
+          empty : NoneHolds list
+          empty = first .none .0 zero
+
+          from-next : (c : ℕ) → (c ≡ 0 → ⊥) → Gives list c ⊎ (NoneHolds list × Gives next c) → number w ≡ c
+          from-next c apart (inl g) = absurd (apart (sym (first .given c apart .1 g) ∙ zero))
+          from-next c apart (inr g) = second .given c apart .1 (g .1)
+      go false e =
+          record {
+            given = λ c apart. (λ told. gives-first list next c (first .given c apart .0 told), λ g. from-first c apart (gives-parts list next c g));
+            none = (λ told. absurd (some told), λ none-holds. absurd (some (first .none .1 (none-parts list next none-holds .0))));
+          }
+        where
+          some : number v ≡ 0 → ⊥
+          some = eqb-false (number v) 0 e
+
+          from-first : (c : ℕ) → (c ≡ 0 → ⊥) → Gives list c ⊎ (NoneHolds list × Gives next c) → number v ≡ c
+          from-first c apart (inl g) = first .given c apart .1 g
+          from-first c apart (inr g) = absurd (some (first .none .1 (g .0)))

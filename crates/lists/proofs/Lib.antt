@@ -1,2 +1,0 @@
-pub mod PathList
-pub mod Cutting

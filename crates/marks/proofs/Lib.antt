@@ -1,3 +1,0 @@
-pub mod First
-pub mod Places
-pub mod Turns

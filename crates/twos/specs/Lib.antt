@@ -1,3 +1,0 @@
-pub mod Log
-pub mod Progress
-pub mod Talk
