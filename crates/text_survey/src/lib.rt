@@ -44,8 +44,8 @@ pub struct FirstLine {
     pub k: usize,
 }
 
-// The numbers of a capture: its own number, the paths wanted, and what the survey of its map says. A refused text has a
-// refusal and a place, and 0 for all else.
+// The numbers of a capture: its own number and the paths wanted, as its first line says them, and what the survey says of its
+// map. A text that is refused before the survey has a refusal and a place, and 0 for all else.
 pub struct Surveyed {
     pub capture: usize,
     pub wanted: usize,
