@@ -4,11 +4,15 @@
  * every input. It allocates nothing, keeps nothing between calls and calls back nobody, so calls
  * from several threads are fine as long as their buffers are different.
  *
- * Build the library with `rt staticlib survey`; link target/staticlib/libsurvey.a. It is for
- * x86-64 (64-bit size_t).
+ * `make library` builds target/libfogsignaller.a; `make install` puts it in place, with this header
+ * and fogsignaller.pc for pkg-config. Link it with -lfogsignaller. Each call is a member of its own
+ * there, so a program gets the calls that it makes and no other. It is for x86-64 (64-bit size_t).
  */
 #ifndef FOGSIGNALLER_H
 #define FOGSIGNALLER_H
+
+/* The version of the header, the library, the command and the Rust package: one number for all. */
+#define FOG_VERSION "1.0.0"
 
 #include <stddef.h>
 #include <stdint.h>

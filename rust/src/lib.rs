@@ -153,7 +153,7 @@ impl Refusal {
             8 => Some(Refusal::ListTooShort),
             number => panic!(
                 "the library gave refusal number {number}, which this package does not know: \
-                 libsurvey.a and the package are not of the same version"
+                 libfogsignaller.a and the package are not of the same version"
             ),
         }
     }

@@ -13,6 +13,7 @@ use Rattle.basics.proofs.Places.{row-of, column-of}
 use Rattle.radios.specs.Bytes.{isOne}
 use Rattle.site.specs.Map.{linked}
 use Rattle.refusals.specs.Refusals.{bad, badAt, badCell}
+use Rattle.site.specs.Limits.{mostRadios}
 
 -- ---- good cells
 
@@ -96,10 +97,10 @@ unfolding badCell
 at-place table n i j h = ap₂ (badAt table n) (row-of n i j h) (column-of n i j h)
 
 -- an earlier place is in an earlier row, or in the same row and further left
-pub earlier : (n a b i j : ℕ) → n ≤ 64 → b < n → j < n → a * n + b < i * n + j → 64 * a + b < 64 * i + j
+pub earlier : (n a b i j : ℕ) → n ≤ mostRadios → b < n → j < n → a * n + b < i * n + j → mostRadios * a + b < mostRadios * i + j
 earlier n a b i j h hb hj l = pick (decLt a i) (decLt i a)
   where
-    pick : Dec (a < i) → Dec (i < a) → 64 * a + b < 64 * i + j
+    pick : Dec (a < i) → Dec (i < a) → mostRadios * a + b < mostRadios * i + j
     pick (yes p) q = omega arith
     pick (no p) (yes q) = absurd (omega (arith, mul-le-mul-right n q, suc-mul i n))
     pick (no p) (no q) = let e : a ≡ i = omega arith in omega (arith, ap (λ (x : ℕ). x * n) e)

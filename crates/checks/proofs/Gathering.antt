@@ -11,13 +11,13 @@ use Rattle.radios.specs.Bytes.{isOne}
 use Rattle.radios.specs.Member.{member}
 
 -- the first k cells from the start on, as a set
-abbrev pub Holds : List ℕ → ℕ → ℕ → ℕ → Type 0
-Holds table start k row = (j : ℕ) → member j row ≡ (ltb j k && isOne table (start + j))
+abbrev pub RowSoFar : List ℕ → ℕ → ℕ → ℕ → Type 0
+RowSoFar table start k row = (j : ℕ) → member j row ≡ (ltb j k && isOne table (start + j))
 
 module _ (table : List ℕ) (start : ℕ) where
-  pub eight-more : (k row eight raised row′ : ℕ) → Holds table start (8 * k) row → Holds table (start + 8 * k) 8 eight
+  pub eight-more : (k row eight raised row′ : ℕ) → RowSoFar table start (8 * k) row → RowSoFar table (start + 8 * k) 8 eight
       → ((j : ℕ) → member j raised ≡ (leb (8 * k) j && member (j - 8 * k) eight)) → ((j : ℕ) → member j row′ ≡ (member j raised || member j row))
-      → Holds table start (8 * (k + 1)) row′
+      → RowSoFar table start (8 * (k + 1)) row′
   eight-more k row eight raised row′ before eight-is raised-is both-is j =
       both-is j ∙ ap₂ _||_ (raised-is j) (before j) ∙ pick (decLt j (8 * k)) (decLt j (8 * (k + 1)))
     where
@@ -29,7 +29,7 @@ module _ (table : List ℕ) (start : ℕ) where
       pick (no l) (no q) =
           simp (le-leb (8 * k) j (omega arith), le-ltb j (8 * k) (omega arith), le-ltb j (8 * (k + 1)) (omega arith), eight-is (j - 8 * k), le-ltb (j - 8 * k) 8 (omega arith))
 
-  pub cell-more : (k row row′ : ℕ) → Holds table start k row → ((j : ℕ) → member j row′ ≡ ((isOne table (start + k) && eqb j k) || member j row)) → Holds table start (k + 1) row′
+  pub cell-more : (k row row′ : ℕ) → RowSoFar table start k row → ((j : ℕ) → member j row′ ≡ ((isOne table (start + k) && eqb j k) || member j row)) → RowSoFar table start (k + 1) row′
   cell-more k row row′ before more j = more j ∙ ap (λ (b : Bool). (isOne table (start + k) && eqb j k) || b) (before j) ∙ pick (decLt j k) (ℕ-discrete j k)
     where
       pick : Dec (j < k) → Dec (j ≡ k) → ((isOne table (start + k) && eqb j k) || (ltb j k && isOne table (start + j))) ≡ (ltb j (k + 1) && isOne table (start + j))

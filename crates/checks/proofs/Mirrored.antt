@@ -133,8 +133,8 @@ module _ (table : List ℕ) (n : ℕ) (rows : List ℕ) (bits : Bits table) (m :
   pub mirrored-sound : finding table n ≡ Sound
   mirrored-sound = found-none table n (λ a b p q l. no-bad a b (omega arith) q)
 
-  pub mirrored-filled : RowsOfLinks table n rows
-  mirrored-filled u v = pick (decLt u n) (decLt v n)
+  pub mirrored-rows : RowsOfLinks table n rows
+  mirrored-rows u v = pick (decLt u n) (decLt v n)
     where
       pick : Dec (u < n) → Dec (v < n) → inRows rows u v ≡ linked table n u v
       pick (yes p) q = m .whole u v p

@@ -19,17 +19,18 @@ use Rattle.site.proofs.Formula.{Even}
 use Rattle.refusals.proofs.Accepted.{even-links}
 use Rattle.refusals.specs.declared.Finding.the-variants.{Sound, Bad}
 use Rattle.basics.proofs.Places.{in-table}
+use Rattle.site.specs.Limits.{mostRadios}
 use Rattle.checks.proofs.Cells.{good-mirror, at-place, earlier}
 
 -- what is known before the turn `here`: the cells before it are good. The scan meets a pair of radios at its lower radio's row
 abbrev pub Scanned : List ℕ → ℕ → ℕ → Type 0
-Scanned table n here = (a b : ℕ) → a ≤ b → b < n → 64 * a + b < here → badAt table n a b ≡ false
+Scanned table n here = (a b : ℕ) → a ≤ b → b < n → mostRadios * a + b < here → badAt table n a b ≡ false
 
 -- one turn more
-pub scanned-more : (table : List ℕ) (n i j : ℕ) → n ≤ 64 → j < n → Scanned table n (64 * i + j) → badAt table n i j ≡ false → Scanned table n (64 * i + (j + 1))
-scanned-more table n i j small within s fine a b p q l = pick (decLt (64 * a + b) (64 * i + j))
+pub scanned-more : (table : List ℕ) (n i j : ℕ) → n ≤ mostRadios → j < n → Scanned table n (mostRadios * i + j) → badAt table n i j ≡ false → Scanned table n (mostRadios * i + (j + 1))
+scanned-more table n i j small within s fine a b p q l = pick (decLt (mostRadios * a + b) (mostRadios * i + j))
   where
-    pick : Dec (64 * a + b < 64 * i + j) → badAt table n a b ≡ false
+    pick : Dec (mostRadios * a + b < mostRadios * i + j) → badAt table n a b ≡ false
     pick (yes d) = s a b p q d
     pick (no d) =
         let x : a ≡ i = omega arith in
@@ -40,7 +41,7 @@ scanned-more table n i j small within s fine a b p q l = pick (decLt (64 * a + b
 
 -- below the diagonal too: a cell is as good as its mirror cell, which came first
 sound-below : (table : List ℕ) (n here : ℕ) → Scanned table n here
-    → (a b : ℕ) → a < n → b < n → 64 * a + b < here → badAt table n a b ≡ false
+    → (a b : ℕ) → a < n → b < n → mostRadios * a + b < here → badAt table n a b ≡ false
 sound-below table n here s a b p q l = pick (decLt b a)
   where
     pick : Dec (b < a) → badAt table n a b ≡ false
@@ -53,7 +54,7 @@ some-row (suc n) place l = omega arith
 
 -- so every place before the turn is good
 sound-places : (table : List ℕ) (n here end : ℕ) → end ≤ n * n → Scanned table n here
-    → ((a b : ℕ) → a < n → b < n → a * n + b < end → 64 * a + b < here)
+    → ((a b : ℕ) → a < n → b < n → a * n + b < end → mostRadios * a + b < here)
     → (place : ℕ) → place < end → badCell table n place ≡ false
 unfolding badCell
 sound-places table n here end most s order place l =
@@ -70,7 +71,7 @@ unfolding badAt
 tested table n i j at mirror b e f said = rw (said, e, f) refl
 
 -- the scan stopped at a bad cell: it is the first
-pub found-bad : (table : List ℕ) (n i j : ℕ) → n ≤ 64 → i ≤ j → j < n → i * n + j < n * n → Scanned table n (64 * i + j)
+pub found-bad : (table : List ℕ) (n i j : ℕ) → n ≤ mostRadios → i ≤ j → j < n → i * n + j < n * n → Scanned table n (mostRadios * i + j)
     → badAt table n i j ≡ true → finding table n ≡ Bad (i * n + j)
 unfolding finding firstBad
 found-bad table n i j small from within inside s e =
@@ -80,14 +81,14 @@ found-bad table n i j small from within inside s e =
       from = zero-le;
       within = omega arith;
       before = λ place p q.
-          sound-places table n (64 * i + j) (i * n + j) (omega arith) s (λ a b x y l. earlier n a b i j small y within l) place q;
+          sound-places table n (mostRadios * i + j) (i * n + j) (omega arith) s (λ a b x y l. earlier n a b i j small y within l) place q;
       found = λ p. at-place table n i j within ∙ e;
     })
     in
     rw (first, lt-ltb (i * n + j) (n * n) inside) refl
 
 -- the scan went through: there is no bad cell
-pub found-none : (table : List ℕ) (n : ℕ) → Scanned table n (64 * n + n) → finding table n ≡ Sound
+pub found-none : (table : List ℕ) (n : ℕ) → Scanned table n (mostRadios * n + n) → finding table n ≡ Sound
 unfolding finding firstBad
 found-none table n s =
     let first : firstFrom (badCell table n) 0 (n * n) ≡ n * n =
@@ -95,7 +96,7 @@ found-none table n s =
     (record {
       from = zero-le;
       within = omega arith;
-      before = λ place p q. sound-places table n (64 * n + n) (n * n) (omega arith) s (λ a b x y l. omega arith) place q;
+      before = λ place p q. sound-places table n (mostRadios * n + n) (n * n) (omega arith) s (λ a b x y l. omega arith) place q;
       found = λ p. absurd (omega arith);
     })
     in

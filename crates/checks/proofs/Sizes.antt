@@ -8,8 +8,9 @@ use native.Mathlib.Omega.{arith}
 use Rattle.basics.specs.Counting.{oneIf, sum}
 use Rattle.basics.proofs.Counting.{sum-ext}
 use Rattle.site.specs.Map.{linked, degree}
-use Rattle.checks.specs.Checked.{size}
+use Rattle.site.specs.Limits.{mostRadios}
 use Rattle.radios.specs.Links.{RowsOfLinks}
+use Rattle.checks.specs.Checked.{size}
 use Rattle.checks.proofs.Cells.{linked-outside}
 
 -- one number more
@@ -28,7 +29,7 @@ sum-beyond f n (suc m) h none = pick (ℕ-discrete n (suc m)) (λ p. sum-beyond 
     pick (no d) rest = omega (arith, none m (omega arith), rest (omega arith))
 
 -- the size of row u is the degree of u
-pub size-degree : (table : List ℕ) (n : ℕ) (rows : List ℕ) → n ≤ 64 → RowsOfLinks table n rows → (u : ℕ) → size rows u ≡ degree table n u
-size-degree table n rows small filled u =
-    sum-ext _ (λ v. oneIf (linked table n u v)) 64 (λ v l. ap oneIf (filled u v))
-    ∙ sum-beyond (λ v. oneIf (linked table n u v)) n 64 small (λ v l. ap oneIf (linked-outside table n u v (λ p q. omega arith)))
+pub size-degree : (table : List ℕ) (n : ℕ) (rows : List ℕ) → n ≤ mostRadios → RowsOfLinks table n rows → (u : ℕ) → size rows u ≡ degree table n u
+size-degree table n rows small rows-are u =
+    sum-ext _ (λ v. oneIf (linked table n u v)) mostRadios (λ v l. ap oneIf (rows-are u v))
+    ∙ sum-beyond (λ v. oneIf (linked table n u v)) n mostRadios small (λ v l. ap oneIf (linked-outside table n u v (λ p q. omega arith)))

@@ -111,7 +111,7 @@ module _ (n k steps log paths cut : ℕ) where
 -- ---- the whole call
 
 -- a call that 1 to 6 let pass, with its rows and twice its links
-pub record Passed (call : Call) (rows : List ℕ) (total : ℕ) : Type 0 where
+pub record Unrefused (call : Call) (rows : List ℕ) (total : ℕ) : Type 0 where
   pub on-map : number (mapVerdict (call .site .table) (call .site .n)) ≡ 0
   pub on-pair : number (pairVerdict (call .site .n) (call .site .S) (call .site .T) (call .k)) ≡ 0
   pub rows-are : RowsOfLinks (call .site .table) (call .site .n) rows
@@ -130,10 +130,10 @@ module _ (call : Call) {rows : List ℕ} {answer : MapAnswer} (judged : MapJudge
     pub stopped-by-pair : (number v ≡ 0 → ⊥) → Judged call rows v
     stopped-by-pair refused = record { told = told ∙ sym (told-by-pair call on-map (λ e. refused (ap number told ∙ e))); rows-are = λ e. absurd (refused e) }
 
-    pub passed : number v ≡ 0 → Passed call rows (answer .total)
-    passed fine = record { on-map = on-map; on-pair = sym (ap number told) ∙ fine; rows-are = judged .rows-are accepted; twice = judged .twice accepted }
+    pub unrefused : number v ≡ 0 → Unrefused call rows (answer .total)
+    unrefused fine = record { on-map = on-map; on-pair = sym (ap number told) ∙ fine; rows-are = judged .rows-are accepted; twice = judged .twice accepted }
 
-module _ {call : Call} {rows : List ℕ} {total : ℕ} (p : Passed call rows total) where
+module _ {call : Call} {rows : List ℕ} {total : ℕ} (p : Unrefused call rows total) where
   abbrev site : Site
   site = call .site
 

@@ -1,28 +1,28 @@
 -- The program lends enough: of the refusals 1 to 8 a call that it makes meets only 4, 5 and 6. Assumes nothing.
 use mathlib.Core.Path.{_≡_, refl, sym, ap, _∙_}
 use mathlib.Core.Bool.{Bool, true, false, not, _||_, cond}
-use mathlib.Core.List.{List, [], _∷_}
+use mathlib.Core.List.{List, [], _∷_, _++_}
 use mathlib.Core.Logic.{_⊎_, inl, inr}
 use Prim.Native.Nat.{ℕ, suc, _+_, _-_, _*_, _/_, _%_, _≤_, _<_}
-use native.Mathlib.Decide.{ℕ-discrete}
 use native.Mathlib.Nat.{div-add-mod', mul-le-mul}
+use native.Mathlib.Decide.{ℕ-discrete}
 use native.Mathlib.Omega.{arith}
 use lib.Dec.{eqb, ltb}
 use lib.ListN.{getD}
 use borrow.Author.Tests.{eq-eqb, eqb-true, ltb-true}
 use Rattle.basics.specs.Counting.{oneIf}
 use Rattle.basics.specs.Lists.{All}
-use Rattle.basics.specs.Numbered.{Gives}
 use Rattle.basics.proofs.Bools.{clash, both-ways, or-left, or-right, or-cases}
+use Rattle.basics.specs.Numbered.{Conditions, Gives, NoneHolds}
 use Rattle.basics.proofs.Counting.{some-counts}
-use Rattle.log.specs.Bytes.{messageBytes}
-use Rattle.site.specs.Limits.{mostRadios, mostLinks, mostPaths}
+use Rattle.basics.proofs.Numbered.{gives-parts}
+use Rattle.site.specs.Limits.{mostRadios}
 use Rattle.site.specs.Map.{Site, degree, links, link, A}
 use Rattle.refusals.specs.Refusals.{Call, callOf, verdict, number}
-use Rattle.refusals.specs.Conditions.{Fault, no-bit, diagonal, mirror, conditions}
+use Rattle.refusals.specs.Conditions.{Fault, no-bit, diagonal, mirror, mapConditions, pairConditions, roomConditions, conditions}
 use Rattle.site.proofs.Formula.{Even, steps-and-degrees}
 use Rattle.refusals.proofs.Exactly.{call-exact}
-use Rattle.refusals.proofs.Accepted.{even-links}
+use Rattle.refusals.proofs.Accepted.{SoundMap, sound-map, GoodPair, good-pair}
 use Rattle.outcome.specs.Leaves.{outcome}
 use Rattle.captures.specs.Capture.{came, atFault, faultLine, tableOf}
 use Rattle.captures.specs.declared.Line.{Line}
@@ -150,39 +150,72 @@ module _ (n S T k : ℕ) (lines : List Line) (two : 2 ≤ n) (most : n ≤ mostR
   sound : (place : ℕ) → place < n * n → Fault (tableOf n lines) n place → ⊥
   sound = no-fault n lines (all-ordered n 1 [] lines good) (omega arith)
 
-  not-1 : (n < 2) ⊎ (mostRadios < n) → ⊥
-  not-1 (inl p) = omega arith
-  not-1 (inr p) = omega arith
+  abbrev call : Call
+  call = lentCall n S T k lines
+
+  abbrev on-map : Conditions
+  on-map = mapConditions (tableOf n lines) n
+
+  abbrev on-pair : Conditions
+  on-pair = pairConditions n S T k
+
+  abbrev on-room : Conditions
+  on-room = roomConditions n k (A (call .site)) logLent pathsLent cutLent
+
+  given : (c : ℕ) → (c ≡ 0 → ⊥) → number (verdict call) ≡ c → Gives (conditions call) c
+  given c some e = call-exact call .law .given c some .0 e
+
+  -- no condition on the map holds but that it has too many links
+  not-by-map : (c : ℕ) → Gives on-map c → c ≡ 4
+  not-by-map c (inl (e, inl p)) = absurd (omega arith)
+  not-by-map c (inl (e, inr p)) = absurd (omega arith)
+  not-by-map c (inr (p₁, inl (e, p))) = absurd (p (table-of-long n lines))
+  not-by-map c (inr (p₁, inr (p₂, inl (e, p)))) = absurd (sound (p .0) (p .1) (p .2))
+  not-by-map c (inr (p₁, inr (p₂, inr (p₃, inl (e, p))))) = e
+  not-by-map c (inr (p₁, inr (p₂, inr (p₃, inr (p₄, g))))) = absurd g
 
   -- 17 · 574 messages of four bytes are the 39,032 lent
-  not-7 : (mostLinks < links (tableOf n lines) n → ⊥) → ((n ≤ S) ⊎ (n ≤ T) ⊎ (S ≡ T) → ⊥) → (mostPaths < k → ⊥) → logLent < messageBytes * ((2 * k + 1) * A (lentCall n S T k lines .site)) → ⊥
-  not-7 few ends wanted long =
-      let source : n ≤ S → ⊥ = λ p. ends (inl p) in
-      let sink : n ≤ T → ⊥ = λ p. ends (inr (inl p)) in
-      let steps = most-steps (lentCall n S T k lines .site) (omega arith) (omega arith) (λ d. ends (inr (inr d))) (even-links (tableOf n lines) n sound) in
-      let messages : (2 * k + 1) * A (lentCall n S T k lines .site) ≤ 17 * 574 = mul-le-mul {n₂ = 17} {m₂ = 574} (omega arith) (omega (arith, steps)) in
-      omega (arith, messages)
+  not-by-room : (c : ℕ) → NoneHolds on-map → NoneHolds on-pair → Gives on-room c → ⊥
+  not-by-room c map-sound pair-good given = go given
+    where
+      map : SoundMap (tableOf n lines) n
+      map = sound-map (tableOf n lines) n map-sound
 
-  not-8 : (mostPaths < k → ⊥) → (pathsLent < n - 2 + 3 * k) ⊎ (cutLent < k) → ⊥
-  not-8 wanted (inl p) = omega arith
-  not-8 wanted (inr p) = wanted p
+      pair : GoodPair n S T k
+      pair = good-pair n S T k pair-good
 
-  -- the conditions from top to bottom
-  left : (r : ℕ) → Gives (conditions (lentCall n S T k lines)) r → (r ≡ 4) ⊎ (r ≡ 5) ⊎ (r ≡ 6)
-  left r (inl (e, c)) = absurd (not-1 c)
-  left r (inr (n1, inl (e, c))) = absurd (c (table-of-long n lines))
-  left r (inr (n1, inr (n2, inl (e, c)))) = absurd (sound (c .0) (c .1) (c .2))
-  left r (inr (n1, inr (n2, inr (n3, inl (e, c))))) = inl e
-  left r (inr (n1, inr (n2, inr (n3, inr (n4, inl (e, c)))))) = inr (inl e)
-  left r (inr (n1, inr (n2, inr (n3, inr (n4, inr (n5, inl (e, c))))))) = inr (inr e)
-  left r (inr (n1, inr (n2, inr (n3, inr (n4, inr (n5, inr (n6, inl (e, c)))))))) = absurd (not-7 n4 n5 (λ p. n6 (inr p)) c)
-  left r (inr (n1, inr (n2, inr (n3, inr (n4, inr (n5, inr (n6, inr (n7, inl (e, c))))))))) = absurd (not-8 (λ p. n6 (inr p)) c)
-  left r (inr (n1, inr (n2, inr (n3, inr (n4, inr (n5, inr (n6, inr (n7, inr (n8, none))))))))) = absurd none
+      messages : (2 * k + 1) * A (call .site) ≤ 17 * 574
+      messages =
+          let steps = most-steps (call .site) (pair .S-below) (pair .T-below) (pair .ends-differ) (map .even) in
+          mul-le-mul {n₂ = 17} {m₂ = 574} (omega (arith, pair .few-wanted)) (omega (arith, steps, map .few-links, map .few-radios))
+
+      go : Gives on-room c → ⊥
+      go (inl (e, p)) = omega (arith, messages, p)
+      go (inr (p₇, inl (e, inl p))) = omega (arith, p, pair .few-wanted, map .few-radios)
+      go (inr (p₇, inl (e, inr p))) = omega (arith, p, pair .few-wanted)
+      go (inr (p₇, inr (p₈, g))) = g
+
+  -- so a number that is given is 4, 5 or 6
+  left : (c : ℕ) → Gives (conditions call) c → (c ≡ 4) ⊎ (c ≡ 5) ⊎ (c ≡ 6)
+  left c g = go (gives-parts on-map (on-pair ++ on-room) c g)
+    where
+      by-pair : Gives on-pair c → (c ≡ 4) ⊎ (c ≡ 5) ⊎ (c ≡ 6)
+      by-pair (inl own) = inr (inl (own .0))
+      by-pair (inr (p₅, inl own)) = inr (inr (own .0))
+      by-pair (inr (p₅, inr (p₆, none))) = absurd none
+
+      later : NoneHolds on-map → Gives on-pair c ⊎ (NoneHolds on-pair × Gives on-room c) → (c ≡ 4) ⊎ (c ≡ 5) ⊎ (c ≡ 6)
+      later map-sound (inl own) = by-pair own
+      later map-sound (inr w) = absurd (not-by-room c map-sound (w .0) (w .1))
+
+      go : Gives on-map c ⊎ (NoneHolds on-map × Gives (on-pair ++ on-room) c) → (c ≡ 4) ⊎ (c ≡ 5) ⊎ (c ≡ 6)
+      go (inl own) = inl (not-by-map c own)
+      go (inr w) = later (w .0) (gives-parts on-pair on-room c (w .1))
 
   pub lends-enough : let r = outcome (callOf n (tableOf n lines) S T k logLent pathsLent cutLent) .refusal in (r ≡ 0) ⊎ (r ≡ 4) ⊎ (r ≡ 5) ⊎ (r ≡ 6)
   unfolding outcome
-  lends-enough = go (ℕ-discrete (number (verdict (lentCall n S T k lines))) 0)
+  lends-enough = go (number (verdict call)) refl (ℕ-discrete (number (verdict call)) 0)
     where
-      go : let r = number (verdict (lentCall n S T k lines)) in Dec (r ≡ 0) → (r ≡ 0) ⊎ (r ≡ 4) ⊎ (r ≡ 5) ⊎ (r ≡ 6)
-      go (yes e) = inl e
-      go (no some) = inr (left _ (call-exact (lentCall n S T k lines) .law .given _ some .0 refl))
+      go : (c : ℕ) → number (verdict call) ≡ c → Dec (c ≡ 0) → (c ≡ 0) ⊎ (c ≡ 4) ⊎ (c ≡ 5) ⊎ (c ≡ 6)
+      go c e (yes zero) = inl zero
+      go c e (no some) = inr (left c (given c some e))

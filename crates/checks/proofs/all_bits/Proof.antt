@@ -15,38 +15,29 @@ Inv-loop table largest₀ at₀ at-end largest at = (at ≤ at-end) × ((a : ℕ
 abbrev μ-loop : tie.MeasureT-loop
 μ-loop table largest₀ at₀ at-end largest at = at-end - at
 
+abbrev past : (P : tie.InvT-loop → tie.MeasureT-loop → Type 0) → P Inv-loop μ-loop → P Inv-loop μ-loop
+past P p = p
+
 loop-holds : tie.Need-loop-holds Inv-loop μ-loop
 loop-holds c = (omega arith, λ a l. absurd (omega arith), λ bits. omega arith)
 
-shared-slice-read-larger : tie.Need-shared-slice-read-larger Inv-loop μ-loop
-shared-slice-read-larger c = omega arith
-
-larger-requires : tie.Need-larger-requires Inv-loop μ-loop
-larger-requires c κs = tt
-
-add-at : tie.Need-add-at Inv-loop μ-loop
-add-at c = omega arith
-
-loop-less : tie.Need-loop-less Inv-loop μ-loop
-loop-less c = omega arith
-
 loop-again : tie.Need-loop-again Inv-loop μ-loop
 loop-again c =
-    let table = c .before .before .before .before .before .args .table .now in
-    let l = c .before .before .before .loop in
+    let table = (let p : tie.Start Inv-loop μ-loop = search in p .args .table .now) in
+    let l = (let p : tie.At-loop Inv-loop μ-loop = search in p .loop) in
     (omega arith, λ a p. passed a p (decLt a (l .at)), λ bits. omega (arith, l .inv .2 bits, bits (l .at)))
   where
-    passed : (a : ℕ) → a < c .before .before .before .loop .at + 1 → Dec (a < c .before .before .before .loop .at)
-        → getD (c .before .before .before .before .before .args .table .now) a 0 ≤ c .larger .result
-    passed a p (yes q) = omega (arith, c .before .before .before .loop .inv .1 a q)
-    passed a p (no q) = let e : a ≡ c .before .before .before .loop .at = omega arith in rw e (omega arith)
+    passed : (a : ℕ) → a < (let p : tie.At-loop Inv-loop μ-loop = search in p .loop .at) + 1 → Dec (a < (let p : tie.At-loop Inv-loop μ-loop = search in p .loop .at))
+        → getD (let p : tie.Start Inv-loop μ-loop = search in p .args .table .now) a 0 ≤ c .larger .result
+    passed a p (yes q) = omega (arith, (let p : tie.At-loop Inv-loop μ-loop = search in p .loop .inv .1) a q)
+    passed a p (no q) = let e : a ≡ (let p : tie.At-loop Inv-loop μ-loop = search in p .loop .at) = omega arith in rw e (omega arith)
 
 returns : tie.Need-returns Inv-loop μ-loop
-returns c = (λ e at. below at (leb-true _ _ e) (decLt at (length (c .before .before .before .args .table .now))), λ bits. le-leb _ _ (c .before .loop .inv .2 bits))
+returns c = (λ e at. below at (leb-true _ _ e) (decLt at (length (past tie.Start (search) .args .table .now))), λ bits. le-leb _ _ (past tie.At-loop (search) .loop .inv .2 bits))
   where
-    below : (at : ℕ) → c .before .loop .largest ≤ 1 → Dec (at < length (c .before .before .before .args .table .now)) → getD (c .before .before .before .args .table .now) at 0 ≤ 1
-    below at p (yes l) = omega (arith, c .before .loop .inv .1 at (omega arith))
-    below at p (no l) = let z : getD (c .before .before .before .args .table .now) at 0 ≡ 0 = List·getD-eq-default (c .before .before .before .args .table .now) 0 (omega arith) in omega arith
+    below : (at : ℕ) → past tie.At-loop (search) .loop .largest ≤ 1 → Dec (at < length (past tie.Start (search) .args .table .now)) → getD (past tie.Start (search) .args .table .now) at 0 ≤ 1
+    below at p (yes l) = omega (arith, past tie.At-loop (search) .loop .inv .1 at (omega arith))
+    below at p (no l) = let z : getD (past tie.Start (search) .args .table .now) at 0 ≡ 0 = List·getD-eq-default (past tie.Start (search) .args .table .now) 0 (omega arith) in omega arith
 
 pub all-bits-spec : {M : Type 1} → statement M
 all-bits-spec =
@@ -55,9 +46,9 @@ all-bits-spec =
     Inv-loop
     μ-loop
     loop-holds
-    shared-slice-read-larger
-    larger-requires
-    add-at
-    loop-less
+    (λ c. omega arith)
+    (λ c κs. tt)
+    (λ c. omega arith)
+    (λ c. omega arith)
     loop-again
     returns)

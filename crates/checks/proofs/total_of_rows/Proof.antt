@@ -5,51 +5,40 @@ use native.Mathlib.Omega.{arith}
 use lib.ListN.{getD}
 use Rattle.basics.specs.Counting.{sum}
 use Rattle.radios.proofs.Counting.{count-le}
+use Rattle.site.specs.Limits.{mostRadios}
 use Rattle.checks.specs.Checked.{size}
 use Rattle.checks.proofs.Sizes.{sum-more}
 use Rattle.checks.proofs.total_of_rows.Statement.{statement}
 use Rattle.checks.proofs.total_of_rows.Tie as tie
 
 abbrev Inv-loop : tie.InvT-loop
-Inv-loop rows n total₀ u₀ total u = (u ≤ n) × (total ≡ sum (size rows) u) × (total ≤ 64 * u)
+Inv-loop rows n total₀ u₀ total u = (u ≤ n) × (total ≡ sum (size rows) u) × (total ≤ mostRadios * u)
 
 abbrev μ-loop : tie.MeasureT-loop
 μ-loop rows n total₀ u₀ total u = n - u
+
+abbrev past : (P : tie.InvT-loop → tie.MeasureT-loop → Type 0) → P Inv-loop μ-loop → P Inv-loop μ-loop
+past P p = p
 
 loop-holds : tie.Need-loop-holds Inv-loop μ-loop
 unfolding sum
 loop-holds c = (omega arith, refl, omega arith)
 
-mul-count : tie.Need-mul-count Inv-loop μ-loop
-mul-count c = omega arith
-
-element-copy-out-count : tie.Need-element-copy-out-count Inv-loop μ-loop
-element-copy-out-count c = omega arith
-
-count-requires : tie.Need-count-requires Inv-loop μ-loop
-count-requires c κs = omega arith
-
 add-total : tie.Need-add-total Inv-loop μ-loop
 add-total c =
-    let row = getD (c .before .before .before .before .args .rows .now) (c .before .before .before .loop .u) 0 in
-    omega (arith, count-le 64 row)
-
-add-u : tie.Need-add-u Inv-loop μ-loop
-add-u c = omega arith
-
-loop-less : tie.Need-loop-less Inv-loop μ-loop
-loop-less c = omega arith
+    let row = getD (past tie.Start (search) .args .rows .now) (past tie.At-loop (search) .loop .u) 0 in
+    omega (arith, count-le mostRadios row)
 
 loop-again : tie.Need-loop-again Inv-loop μ-loop
 loop-again c =
-    let rows = c .before .before .before .before .args .rows .now in
-    let u = c .before .before .before .loop .u in
-    (omega arith, omega (arith, sum-more (size rows) u), omega (arith, count-le 64 (getD rows u 0)))
+    let rows = past tie.Start (search) .args .rows .now in
+    let u = past tie.At-loop (search) .loop .u in
+    (omega arith, omega (arith, sum-more (size rows) u), omega (arith, count-le mostRadios (getD rows u 0)))
 
 returns : tie.Need-returns Inv-loop μ-loop
 returns c =
-    let e : c .before .loop .u ≡ c .before .before .args .n = omega arith in
-    c .before .loop .inv .1 ∙ ap (sum (size (c .before .before .args .rows .now))) e
+    let e : past tie.At-loop (search) .loop .u ≡ past tie.Start (search) .args .n = omega arith in
+    past tie.At-loop (search) .loop .inv .1 ∙ ap (sum (size (past tie.Start (search) .args .rows .now))) e
 
 pub total-of-rows-spec : {M : Type 1} → statement M
 total-of-rows-spec =
@@ -58,11 +47,11 @@ total-of-rows-spec =
     Inv-loop
     μ-loop
     loop-holds
-    mul-count
-    element-copy-out-count
-    count-requires
+    (λ c. omega arith)
+    (λ c. omega arith)
+    (λ c κs. omega arith)
     add-total
-    add-u
-    loop-less
+    (λ c. omega arith)
+    (λ c. omega arith)
     loop-again
     returns)
