@@ -39,7 +39,7 @@ enum fog_refusal {
 enum fog_kind {
     FOG_PDT = 1,   /* path discovery token */
     FOG_PDT_B = 2, /* the token comes back: no path that way */
-    FOG_PMT = 3,   /* path made: the step's mark is reversed */
+    FOG_PMT = 3,   /* path marker token: the step's mark is reversed */
     FOG_DONE = 4   /* walks each path once after the last round */
 };
 
