@@ -2,6 +2,7 @@
 # standard error a line for each kind of change, with the lines of the raw text that it was made in.
 # It judges no number and takes out no link: what is still wrong the program refuses. Where the text makes no sense it writes
 # no capture, says why in one sentence, and ends with status 1. LC_ALL=C: a byte is a letter, whatever it is.
+# Of a longer text than most_bytes a caller need hand over one byte more and no further.
 
 BEGIN {
     # The whole text is one record, so that a last line without a line feed is seen. No text has this byte.
@@ -22,6 +23,8 @@ BEGIN {
     words["remark"] = "lines that begin with # taken out"
     words["open"] = "line feed put at the end"
 
+    # Eight times what a capture may have: columns, quotes and remarks take room too.
+    most_bytes = 65536
     # More of them help nobody.
     most_ranges = 10
 }
@@ -44,8 +47,9 @@ END {
 
 # ---- the text
 
-# A file that is no text at all.
+# A file that is no text at all, or far more than one site.
 function on_file(text) {
+    if (length(text) > most_bytes) return "this is longer than " most_bytes " bytes; hand over one capture at a time"
     if (index(text, "PK\003\004") == 1) return "this is a spreadsheet's own file; save the sheet as CSV, and hand that over"
     if (index(text, "\377\376") == 1 || index(text, "\376\377") == 1) return "this is UTF-16 text; save it as CSV or as plain text (UTF-8)"
     return ""
