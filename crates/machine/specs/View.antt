@@ -9,7 +9,7 @@ use Rattle.tokens.specs.Rules.{Notes, Waiting, nobody, waits, State, searching,
 use Rattle.tokens.specs.declared.Answer.{Answer}
 use Rattle.tokens.specs.declared.Answer.the-variants.{Sent, End}
 pub use Rattle.halves.specs.Bytes.{enteredOf}
-pub use Rattle.openings.specs.Rows.{marksOf, placeOf}
+pub use Rattle.openings.specs.Rows.{marksOf, placeInOrder}
 use Rattle.machine.specs.declared.Stage.{Stage}
 use Rattle.machine.specs.declared.Stage.the-variants.{Searching, Declining, Granting, Won, Carrying}
 use Rattle.machine.specs.declared.Machine.{Machine}
@@ -32,7 +32,7 @@ beginningAt source rows round found = record { stage = Searching; half = source;
 
 -- the place after the one at which half h has asked half x
 abbrev pub tried : Site → ℕ → ℕ → ℕ
-tried site h x = suc (placeOf site h (radioOf x))
+tried site h x = suc (placeInOrder site h (radioOf x))
 
 -- so many halves that wait below half h, each for the one above it
 abbrev pub waitingOf : Site → List ℕ → ℕ → ℕ → Waiting

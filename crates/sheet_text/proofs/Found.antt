@@ -14,7 +14,7 @@ use Rattle.outcome.specs.declared.Outcome.{Outcome}
 use Rattle.path_lists.specs.Bytes.{pathBytes, Holds}
 use Rattle.path_lists.proofs.Walking.{holds-front}
 use Rattle.sheet_lines.specs.Lines.{refusedLine, reportLine, pathLines, cutLines}
-use Rattle.sheet_lines.specs.Written.{Written, Listed}
+use Rattle.sheet_lines.specs.Written.{Written, Printable}
 use Rattle.sheet_lines.proofs.Writing.{join, kept, room-first, room-then, used}
 use Rattle.sheet_lines.proofs.Lines.{sheet-in-parts}
 use Rattle.sheet_lines.proofs.Room.{Small, Moderate, refused-fits, sheet-fits, small-take, small-paths}
@@ -119,7 +119,7 @@ module _ {survey : TextSurvey} {found : Surveyed} {paths cut : List ℕ} (delive
         room-after : after-report + length (middle ++ last) ≤ length out₁
         room-after = room-then reported (middle ++ last) room-for-all
 
-        pub paths-room : Listed out₁ after-report paths (o .paths)
+        pub paths-room : Printable out₁ after-report paths (o .paths)
         paths-room = record { paths = survey .paths; listed = listed; room = room-first after-report middle last room-after }
 
         module _ {out₂ : List ℕ} {after-paths : ℕ} (listing : Written out₁ out₂ after-report middle after-paths) where
