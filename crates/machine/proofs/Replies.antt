@@ -16,7 +16,7 @@ use Rattle.tokens.specs.declared.Kind.the-variants.{Pdt, PdtB, Pmt, Done}
 use Rattle.tokens.specs.declared.Message.{Message}
 use Rattle.tokens.specs.declared.Answer.{Answer}
 use Rattle.tokens.specs.declared.Answer.the-variants.{Sent, End}
-use Rattle.openings.specs.Rows.{across, Open, Joined, Untried, Next as NextRadio}
+use Rattle.openings.specs.Rows.{across, Open, Joined, Untried, NextRadio}
 use Rattle.openings.proofs.Walks.{pair}
 use Rattle.openings.proofs.Turns.{on-turned, on-told, marks-told}
 use Rattle.openings.proofs.Order.{untried-whole, untried-less, none-left}
@@ -25,14 +25,11 @@ use Rattle.machine.specs.declared.Stage.{Stage}
 use Rattle.machine.specs.declared.Stage.the-variants.{Searching, Declining, Granting, Won, Carrying}
 use Rattle.machine.specs.declared.Machine.{Machine}
 use Rattle.machine.specs.declared.Stepped.{Stepped}
-use Rattle.machine.specs.View.{marksOf, enteredOf, tried, waitingOf, notesIn, stateIn, stackOf, stateOf}
+use Rattle.machine.specs.View.{movedTo, marksOf, enteredOf, tried, waitingOf, notesIn, stateIn, stackOf, stateOf}
 use Rattle.machine.specs.Step.{Fits, TopUntried, Ready, Agrees, Follows, Received}
 use Rattle.machine.proofs.Stages.{tried-across, in-stage, sane-in, untried-in, Top, on-top, asks-next, asks-no-more}
 
--- the machine at another stage, and a message sent
-abbrev pub movedTo : Machine → Stage → ℕ → ℕ → ℕ → ℕ → Machine
-movedTo machine stage half other left depth = record { stage = stage; half = half; other = other; left = left; depth = depth; round = machine .round; found = machine .found }
-
+-- a message is sent
 abbrev pub sentBy : Message → Machine → Stepped
 sentBy message machine = record { answer = Sent message; machine = machine }
 
@@ -61,11 +58,11 @@ module _ (site : Site) (machine next : Machine) (y left : ℕ) (rows entered ent
   unfolding gets
   entered-receives t e rest m = rw m (record { place = tried site (machine .half) y; untried = rest; state = rw (ne-eqb y (inHalf (site .T)) t, e) refl })
 
-  pub new-receives : (halves′ : List ℕ) → (y ≡ inHalf (site .T) → ⊥) → enteredOf entered y ≡ false → enteredOf entered′ ≡ (λ x. eqb x y || enteredOf entered x)
+  pub new-receives : (halves′ : List ℕ) (other : ℕ) → (y ≡ inHalf (site .T) → ⊥) → enteredOf entered y ≡ false → enteredOf entered′ ≡ (λ x. eqb x y || enteredOf entered x)
       → waitingOf site halves′ (machine .depth + 1) y ≡ Above → Open site (marksOf site rows) rows
-      → next ≡ movedTo machine Searching y y (getD rows y 0) (machine .depth + 1) → Received site machine y rows entered halves next entered′ halves′
+      → next ≡ movedTo machine Searching y other (getD rows y 0) (machine .depth + 1) → Received site machine y rows entered halves next entered′ halves′
   unfolding gets
-  new-receives halves′ t e f w walks m =
+  new-receives halves′ other t e f w walks m =
       rw m
       (record {
         place = 0;
@@ -111,12 +108,12 @@ module _ {plan : Plan} {place : ℕ} {task : Task} {machine : Machine} {links ro
   abbrev From : Stage → State
   From stage = stateIn stage (machine .half) (machine .other) Now (stackOf (plan .site) place machine halves)
 
-  abbrev pub Leaves : Stepped → List ℕ → List ℕ → List ℕ → Type 0
-  Leaves stepped rows′ entered′ halves′ = Follows plan (stateOf (plan .site) place machine rows entered halves) stepped rows′ entered′ halves′
+  abbrev pub LeavesNext : Stepped → List ℕ → List ℕ → List ℕ → Type 0
+  LeavesNext stepped rows′ entered′ halves′ = Follows plan (stateOf (plan .site) place machine rows entered halves) stepped rows′ entered′ halves′
 
   -- what is given from the state at its stage follows
   follows-at : (stage : Stage) → machine .stage ≡ stage → (stepped : Stepped) (rows′ entered′ halves′ : List ℕ) → Open (plan .site) (marksOf (plan .site) rows′) rows′
-      → Agrees (plan .site) (innerStep plan (From stage)) stepped rows′ entered′ halves′ → Leaves stepped rows′ entered′ halves′
+      → Agrees (plan .site) (innerStep plan (From stage)) stepped rows′ entered′ halves′ → LeavesNext stepped rows′ entered′ halves′
   follows-at stage e stepped rows′ entered′ halves′ walks gives =
       record {
         walks = walks;
@@ -124,7 +121,7 @@ module _ {plan : Plan} {place : ℕ} {task : Task} {machine : Machine} {links ro
       }
 
   pub carrying-releases : machine .stage ≡ Carrying → machine .half ≡ 2 * task .t → (stepped : Stepped)
-      → Agrees (plan .site) (release (plan .site) (machine .other + 1) Now) stepped rows entered halves → Leaves stepped rows entered halves
+      → Agrees (plan .site) (release (plan .site) (machine .other + 1) Now) stepped rows entered halves → LeavesNext stepped rows entered halves
   unfolding innerStep carry
   carrying-releases e t stepped gives =
       follows-at Carrying e stepped rows entered halves (ready .walks)
@@ -138,26 +135,26 @@ module _ {plan : Plan} {place : ℕ} {task : Task} {machine : Machine} {links ro
   not-T t = ne-eqb (machine .half) (inHalf (plan .site .T)) (λ e. t (e ∙ ap inHalf (ready .made .sink)))
 
   pub carrying-passes : machine .stage ≡ Carrying → (machine .half ≡ 2 * task .t → ⊥) → machine .half % 2 ≡ 1 → (w : ℕ) → nextMarked (plan .site) (marksOf (plan .site) rows) (machine .half) 0 ≡ w → (stepped : Stepped)
-      → Agrees (plan .site) (passOn (plan .site) (machine .half) (machine .other) w Now) stepped rows entered halves → Leaves stepped rows entered halves
+      → Agrees (plan .site) (passOn (plan .site) (machine .half) (machine .other) w Now) stepped rows entered halves → LeavesNext stepped rows entered halves
   unfolding innerStep carry
   carrying-passes e t out w is stepped gives =
       follows-at Carrying e stepped rows entered halves (ready .walks)
       (record { place = gives .place; untried = gives .untried; answers = rw (not-T t, eq-eqb (machine .half % 2) 1 out, is) (gives .answers) })
 
   pub carrying-inside : machine .stage ≡ Carrying → (machine .half ≡ 2 * task .t → ⊥) → (machine .half % 2 ≡ 1 → ⊥) → (stepped : Stepped) (next : Machine) (left : ℕ)
-      → next ≡ movedTo machine Carrying (machine .half + 1) (machine .other) left 0 → stepped ≡ sentBy (message Done (machine .half) (machine .half + 1)) next → Leaves stepped rows entered halves
+      → next ≡ movedTo machine Carrying (machine .half + 1) (machine .other) left 0 → stepped ≡ sentBy (message Done (machine .half) (machine .half + 1)) next → LeavesNext stepped rows entered halves
   unfolding innerStep carry
   carrying-inside e t low stepped next left m s =
       follows-at Carrying e stepped rows entered halves (ready .walks)
       (rw (s, m) (record { place = 0; untried = tt; answers = rw (not-T t, ne-eqb (machine .half % 2) 1 low) refl }))
 
   pub declining-replies : machine .stage ≡ Declining → (stepped : Stepped) (next : Machine) (other : ℕ) → next ≡ movedTo machine Searching (machine .half) other (machine .left) (machine .depth)
-      → stepped ≡ sentBy (message PdtB (machine .other) (machine .half)) next → Leaves stepped rows entered halves
+      → stepped ≡ sentBy (message PdtB (machine .other) (machine .half)) next → LeavesNext stepped rows entered halves
   unfolding innerStep decline
   declining-replies e stepped next other m s =
       follows-at Declining e stepped rows entered halves (ready .walks) (rw (s, m) (record { place = place; untried = untried-in ready Declining e; answers = refl }))
 
-  pub last-releases : machine .stage ≡ Won → task .k ≤ machine .found → (stepped : Stepped) → Agrees (plan .site) (release (plan .site) 0 Now) stepped rows entered halves → Leaves stepped rows entered halves
+  pub last-releases : machine .stage ≡ Won → task .k ≤ machine .found → (stepped : Stepped) → Agrees (plan .site) (release (plan .site) 0 Now) stepped rows entered halves → LeavesNext stepped rows entered halves
   unfolding innerStep goOn
   last-releases e full stepped gives =
       follows-at Won e stepped rows entered halves (ready .walks)
@@ -173,7 +170,7 @@ module _ {plan : Plan} {place : ℕ} {task : Task} {machine : Machine} {links ro
     search-untried = untried-in ready Searching e
 
     pub searching-asks : (v : ℕ) → NextRadio plan (marksOf (plan .site) rows) (machine .half) place v → (stepped : Stepped) (y : ℕ) (there : Machine) (entered′ halves′ : List ℕ) → y ≡ across (machine .half) v
-        → Received (plan .site) machine y rows entered halves there entered′ halves′ → stepped ≡ sentBy (message Pdt (machine .half) y) there → Leaves stepped rows entered′ halves′
+        → Received (plan .site) machine y rows entered halves there entered′ halves′ → stepped ≡ sentBy (message Pdt (machine .half) y) there → LeavesNext stepped rows entered′ halves′
     searching-asks v next stepped y there entered′ halves′ is received s =
         follows-at Searching e stepped rows entered′ halves′ (ready .walks)
         (rw s
@@ -191,14 +188,14 @@ module _ {plan : Plan} {place : ℕ} {task : Task} {machine : Machine} {links ro
         asks-no-more plan Now (machine .half) place Rest (search-top .half)
         (none-left plan (marksOf (plan .site) rows) (machine .half) place (ready .made .order) (search-top .half) (subst (Untried (plan .site) (marksOf (plan .site) rows) (machine .half) place) none search-untried))
 
-    pub searching-fails : machine .left ≡ 0 → (stepped : Stepped) → machine .depth ≡ 0 → Agrees (plan .site) (release (plan .site) 0 Now) stepped rows entered halves → Leaves stepped rows entered halves
+    pub searching-fails : machine .left ≡ 0 → (stepped : Stepped) → machine .depth ≡ 0 → Agrees (plan .site) (release (plan .site) 0 Now) stepped rows entered halves → LeavesNext stepped rows entered halves
     unfolding tries
     searching-fails none stepped bottom gives =
         follows-at Searching e stepped rows entered halves (ready .walks) (record { place = gives .place; untried = gives .untried; answers = no-more none ∙ rw bottom (gives .answers) })
 
     pub searching-replies : machine .left ≡ 0 → (stepped : Stepped) (below asker left other : ℕ) (there : Machine) → machine .depth ≡ suc below → asker ≡ getD halves below 0
         → Untried (plan .site) (marksOf (plan .site) rows) asker (tried (plan .site) asker (machine .half)) left → there ≡ movedTo machine Searching asker other left below
-        → stepped ≡ sentBy (message PdtB (machine .half) asker) there → Leaves stepped rows entered halves
+        → stepped ≡ sentBy (message PdtB (machine .half) asker) there → LeavesNext stepped rows entered halves
     unfolding tries
     searching-replies none stepped below asker left other there deep is rest m s =
         follows-at Searching e stepped rows entered halves (ready .walks)
@@ -224,7 +221,7 @@ module _ {plan : Plan} {place : ℕ} {task : Task} {machine : Machine} {links ro
       Turned marks found = record { round = machine .round; found = found; marks = marks; entered = enteredOf entered }
 
       pub granting-wins : machine .depth ≡ 0 → stepped ≡ sentBy (message Pmt (machine .other) (machine .half)) (record { stage = Won; half = machine .half; other = machine .other; left = machine .left; depth = 0; round = machine .round; found = machine .found + 1 })
-          → Leaves stepped rows′ entered halves
+          → LeavesNext stepped rows′ entered halves
       unfolding innerStep grant
       granting-wins none s =
           follows-at Granting e stepped rows′ entered halves walks′
@@ -238,7 +235,7 @@ module _ {plan : Plan} {place : ℕ} {task : Task} {machine : Machine} {links ro
           }))
 
       pub granting-goes-on : (below asker : ℕ) (there : Machine) → machine .depth ≡ suc below → asker ≡ getD halves below 0
-          → there ≡ movedTo machine Granting asker (machine .half) (machine .left) below → stepped ≡ sentBy (message Pmt (machine .other) (machine .half)) there → Leaves stepped rows′ entered halves
+          → there ≡ movedTo machine Granting asker (machine .half) (machine .left) below → stepped ≡ sentBy (message Pmt (machine .other) (machine .half)) there → LeavesNext stepped rows′ entered halves
       unfolding innerStep grant
       granting-goes-on below asker there deep is m s =
           follows-at Granting e stepped rows′ entered halves walks′

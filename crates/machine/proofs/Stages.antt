@@ -13,13 +13,13 @@ use Rattle.site.specs.Limits.{mostRadios}
 use Rattle.site.specs.Map.{Site, inHalf, radioOf}
 use Rattle.tokens.specs.Rules.{Plan, Notes, Waiting, nobody, waits, searching, sends, message, rising, gets, tries, search, innerStep, nextPlace, candidate}
 use Rattle.tokens.specs.declared.Kind.the-variants.{Pdt}
-use Rattle.openings.specs.Rows.{across, Untried, Next as NextRadio}
+use Rattle.openings.specs.Rows.{across, Untried, NextRadio}
 use Rattle.openings.proofs.Walks.{pair, across-radio}
 use Rattle.openings.proofs.Order.{placed, candidate-at}
 use Rattle.machine.specs.declared.Task.{Task}
 use Rattle.machine.specs.declared.Stage.{Stage}
 use Rattle.machine.specs.declared.Machine.{Machine}
-use Rattle.machine.specs.View.{marksOf, enteredOf, placeOf, tried, waitingOf, notesIn, stateIn, stackOf, stateOf}
+use Rattle.machine.specs.View.{marksOf, enteredOf, placeInOrder, tried, waitingOf, notesIn, stateIn, stackOf, stateOf}
 use Rattle.machine.specs.Sane.{Joined, DownToS, depth, Under, Sane}
 use Rattle.machine.specs.Step.{Made, WhileSeeking, Ready}
 use Rattle.machine.proofs.Room.{count-most}
@@ -86,8 +86,8 @@ module _ {plan : Plan} {place : ℕ} {task : Task} {machine : Machine} {links ro
 
 -- ---- the definition, by what half h tries next
 
-pub tried-across : (site : Site) (h v : ℕ) → tried site h (across h v) ≡ suc (placeOf site h v)
-tried-across site h v = ap (λ (r : ℕ). suc (placeOf site h r)) (across-radio h v)
+pub tried-across : (site : Site) (h v : ℕ) → tried site h (across h v) ≡ suc (placeInOrder site h v)
+tried-across site h v = ap (λ (r : ℕ). suc (placeInOrder site h r)) (across-radio h v)
 
 module _ (plan : Plan) (notes : Notes) (h place : ℕ) (rest : Waiting) (half : h < 2 * plan .site .n) where
   pub asks-next : (r : ℕ) → plan .order ≡ rising → NextRadio plan (notes .marks) h place r → innerStep plan (searching notes (waits h place rest))
@@ -97,8 +97,8 @@ module _ (plan : Plan) (notes : Notes) (h place : ℕ) (rest : Waiting) (half : 
       rw (
         tried-across (plan .site) h r,
         next .found,
-        lt-ltb (placeOf (plan .site) h r) (plan .site .n + 1) (omega (arith, placed (plan .site) h r half (next .below) .low)),
-        ap (λ (o : ℕ → ℕ). o (placeOf (plan .site) h r)) order,
+        lt-ltb (placeInOrder (plan .site) h r) (plan .site .n + 1) (omega (arith, placed (plan .site) h r half (next .below) .low)),
+        ap (λ (o : ℕ → ℕ). o (placeInOrder (plan .site) h r)) order,
         candidate-at (plan .site) h r half (next .below),
       )
       refl

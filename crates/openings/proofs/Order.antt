@@ -15,22 +15,22 @@ use Rattle.radios.specs.Member.{member}
 use Rattle.radios.proofs.Laws.{member-empty, some-member}
 use Rattle.site.specs.Map.{Site, link, inHalf, outHalf, radioOf, isOut, step}
 use Rattle.tokens.specs.Rules.{Plan, Marks, mayWalk, rising, candidate, canTry, nextPlace, nextMarked}
-use Rattle.openings.specs.Rows.{across, Open, OnSteps, placeOf, Untried, Next}
+use Rattle.openings.specs.Rows.{across, Open, OnSteps, placeInOrder, Untried, NextRadio}
 use Rattle.radios.specs.Links.{RowsOfLinks}
 use Rattle.openings.proofs.Walks.{from-out, walk-below, walk-step, step-out}
 
 -- ---- places
 
-own-place : (site : Site) (h v : ℕ) → v ≡ radioOf h → placeOf site h v ≡ site .n
+own-place : (site : Site) (h v : ℕ) → v ≡ radioOf h → placeInOrder site h v ≡ site .n
 own-place site h v e = rw (eq-eqb v (radioOf h) e) refl
 
-other-place : (site : Site) (h v : ℕ) → (v ≡ radioOf h → ⊥) → placeOf site h v ≡ v
+other-place : (site : Site) (h v : ℕ) → (v ≡ radioOf h → ⊥) → placeInOrder site h v ≡ v
 other-place site h v e = rw (ne-eqb v (radioOf h) e) refl
 
 -- a radio of the map has one of the places 0 to n, and not the one that is passed over
 pub record Placed (site : Site) (h v : ℕ) : Type 0 where
-  pub low : placeOf site h v ≤ site .n
-  pub not-own : placeOf site h v ≡ radioOf h → ⊥
+  pub low : placeInOrder site h v ≤ site .n
+  pub not-own : placeInOrder site h v ≡ radioOf h → ⊥
 
 pub placed : (site : Site) (h v : ℕ) → h < 2 * site .n → v < site .n → Placed site h v
 placed site h v p q = pick (ℕ-discrete v (radioOf h))
@@ -40,7 +40,7 @@ placed site h v p q = pick (ℕ-discrete v (radioOf h))
     pick (no e) = let w = other-place site h v e in record { low = omega arith; not-own = λ d. e (omega arith) }
 
 -- two radios of the map have two places
-two-places : (site : Site) (h v w : ℕ) → v < site .n → w < site .n → placeOf site h v ≡ placeOf site h w → v ≡ w
+two-places : (site : Site) (h v w : ℕ) → v < site .n → w < site .n → placeInOrder site h v ≡ placeInOrder site h w → v ≡ w
 two-places site h v w p q e = pick (ℕ-discrete v (radioOf h)) (ℕ-discrete w (radioOf h))
   where
     pick : Dec (v ≡ radioOf h) → Dec (w ≡ radioOf h) → v ≡ w
@@ -50,7 +50,7 @@ two-places site h v w p q e = pick (ℕ-discrete v (radioOf h)) (ℕ-discrete w 
     pick (no x) (no z) = sym (other-place site h v x) ∙ e ∙ other-place site h w z
 
 -- what stands at a radio's place
-pub candidate-at : (site : Site) (h v : ℕ) → h < 2 * site .n → v < site .n → candidate site h (placeOf site h v) ≡ across h v
+pub candidate-at : (site : Site) (h v : ℕ) → h < 2 * site .n → v < site .n → candidate site h (placeInOrder site h v) ≡ across h v
 unfolding candidate
 candidate-at site h v p q = pick (ℕ-discrete v (radioOf h))
   where
@@ -58,13 +58,13 @@ candidate-at site h v p q = pick (ℕ-discrete v (radioOf h))
     own e true d = let odd : h % 2 ≡ 1 = eqb-true _ _ d in omega arith
     own e false d = let even : h % 2 ≡ 1 → ⊥ = eqb-false _ _ d in omega arith
 
-    pick : Dec (v ≡ radioOf h) → candidate site h (placeOf site h v) ≡ across h v
+    pick : Dec (v ≡ radioOf h) → candidate site h (placeInOrder site h v) ≡ across h v
     pick (no e) = rw (other-place site h v e, lt-ltb v (site .n) q) refl
     pick (yes e) = rw (own-place site h v e, le-ltb (site .n) (site .n) (omega arith)) (own e (isOut h) refl)
 
-try-at : (site : Site) (marks : Marks) (h v : ℕ) → h < 2 * site .n → v < site .n → canTry site marks h (placeOf site h v) ≡ mayWalk site marks h (across h v)
+try-at : (site : Site) (marks : Marks) (h v : ℕ) → h < 2 * site .n → v < site .n → canTry site marks h (placeInOrder site h v) ≡ mayWalk site marks h (across h v)
 unfolding canTry
-try-at site marks h v p q = rw (ne-eqb (placeOf site h v) (radioOf h) (placed site h v p q .not-own), candidate-at site h v p q) refl
+try-at site marks h v p q = rw (ne-eqb (placeInOrder site h v) (radioOf h) (placed site h v p q .not-own), candidate-at site h v p q) refl
 
 -- its own radio's number is no place
 try-own : (site : Site) (marks : Marks) (h v : ℕ) → v ≡ radioOf h → canTry site marks h v ≡ false
@@ -85,14 +85,14 @@ in-order plan marks h place e = ap (λ (order : ℕ → ℕ). firstFrom (λ i. c
 
 -- where no radio before a place is left, no place before it can be tried
 none-before : (site : Site) (marks : Marks) (h place left : ℕ) → h < 2 * site .n → Untried site marks h place left → (limit : ℕ)
-    → ((v : ℕ) → v < site .n → placeOf site h v < limit → member v left ≡ false)
+    → ((v : ℕ) → v < site .n → placeInOrder site h v < limit → member v left ≡ false)
     → (j : ℕ) → place ≤ j → j ≤ site .n → j < limit → canTry site marks h j ≡ false
 none-before site marks h place left half all limit none j p q l = pick (ℕ-discrete j (radioOf h)) (decLt j (site .n))
   where
-    at : (v : ℕ) → v < site .n → placeOf site h v ≡ j → canTry site marks h j ≡ false
+    at : (v : ℕ) → v < site .n → placeInOrder site h v ≡ j → canTry site marks h j ≡ false
     at v r e =
         ap (canTry site marks h) (sym e) ∙ try-at site marks h v half r
-        ∙ sym (rw (le-leb place (placeOf site h v) (omega arith)) at (all v)) ∙ none v r (omega arith)
+        ∙ sym (rw (le-leb place (placeInOrder site h v) (omega arith)) at (all v)) ∙ none v r (omega arith)
 
     pick : Dec (j ≡ radioOf h) → Dec (j < site .n) → canTry site marks h j ≡ false
     pick (yes e) r = try-own site marks h j e
@@ -100,24 +100,24 @@ none-before site marks h place left half all limit none j p q l = pick (ℕ-disc
     pick (no e) (no r) = at (radioOf h) (omega arith) (own-place site h (radioOf h) refl ∙ omega arith)
 
 -- what is left once the first has been tried
-less-first : (site : Site) (marks : Marks) (h place left : ℕ) → h < 2 * site .n → Untried site marks h place left → (r left′ : ℕ) → r < site .n → First (canTry site marks h) place (site .n + 1) (placeOf site h r)
-    → ((v : ℕ) → member v left′ ≡ (not (eqb v r) && member v left)) → Untried site marks h (suc (placeOf site h r)) left′
-less-first site marks h place left half all r left′ below first less v = less v ∙ pick (ℕ-discrete v r) (decLt (placeOf site h r) (placeOf site h v)) (decLt v (site .n)) (decLt (placeOf site h v) place)
+less-first : (site : Site) (marks : Marks) (h place left : ℕ) → h < 2 * site .n → Untried site marks h place left → (r left′ : ℕ) → r < site .n → First (canTry site marks h) place (site .n + 1) (placeInOrder site h r)
+    → ((v : ℕ) → member v left′ ≡ (not (eqb v r) && member v left)) → Untried site marks h (suc (placeInOrder site h r)) left′
+less-first site marks h place left half all r left′ below first less v = less v ∙ pick (ℕ-discrete v r) (decLt (placeInOrder site h r) (placeInOrder site h v)) (decLt v (site .n)) (decLt (placeInOrder site h v) place)
   where
-    pick : Dec (v ≡ r) → Dec (placeOf site h r < placeOf site h v) → Dec (v < site .n) → Dec (placeOf site h v < place) → (not (eqb v r) && member v left) ≡ (leb (suc (placeOf site h r)) (placeOf site h v) && mayWalk site marks h (across h v))
-    pick (yes e) (yes l) m t = absurd (omega (arith, ap (placeOf site h) e))
-    pick (yes e) (no l) m t = rw (eq-eqb v r e, lt-leb (suc (placeOf site h r)) (placeOf site h v) (omega arith)) refl
-    pick (no e) (yes l) m t = rw (ne-eqb v r e, all v, le-leb place (placeOf site h v) (omega (arith, first .from)), le-leb (suc (placeOf site h r)) (placeOf site h v) (omega arith)) refl
+    pick : Dec (v ≡ r) → Dec (placeInOrder site h r < placeInOrder site h v) → Dec (v < site .n) → Dec (placeInOrder site h v < place) → (not (eqb v r) && member v left) ≡ (leb (suc (placeInOrder site h r)) (placeInOrder site h v) && mayWalk site marks h (across h v))
+    pick (yes e) (yes l) m t = absurd (omega (arith, ap (placeInOrder site h) e))
+    pick (yes e) (no l) m t = rw (eq-eqb v r e, lt-leb (suc (placeInOrder site h r)) (placeInOrder site h v) (omega arith)) refl
+    pick (no e) (yes l) m t = rw (ne-eqb v r e, all v, le-leb place (placeInOrder site h v) (omega (arith, first .from)), le-leb (suc (placeInOrder site h r)) (placeInOrder site h v) (omega arith)) refl
     pick (no e) (no l) (no m) t = rw (ne-eqb v r e, all v, walk-below site marks h v (omega arith), and-false, and-false) refl
-    pick (no e) (no l) (yes m) (yes t) = rw (ne-eqb v r e, all v, lt-leb place (placeOf site h v) t, lt-leb (suc (placeOf site h r)) (placeOf site h v) (omega arith)) refl
+    pick (no e) (no l) (yes m) (yes t) = rw (ne-eqb v r e, all v, lt-leb place (placeInOrder site h v) t, lt-leb (suc (placeInOrder site h r)) (placeInOrder site h v) (omega arith)) refl
     pick (no e) (no l) (yes m) (no t) =
-        let apart : placeOf site h v ≡ placeOf site h r → ⊥ = λ d. e (two-places site h v r m below d) in
-        let shut : mayWalk site marks h (across h v) ≡ false = sym (try-at site marks h v half m) ∙ first .before (placeOf site h v) (omega arith) (omega arith) in
+        let apart : placeInOrder site h v ≡ placeInOrder site h r → ⊥ = λ d. e (two-places site h v r m below d) in
+        let shut : mayWalk site marks h (across h v) ≡ false = sym (try-at site marks h v half m) ∙ first .before (placeInOrder site h v) (omega arith) (omega arith) in
         rw (ne-eqb v r e, all v, shut, and-false, and-false) refl
 
 -- what is left is of the map, and can be walked to
 record Stays (site : Site) (marks : Marks) (h place r : ℕ) : Type 0 where
-  later : place ≤ placeOf site h r
+  later : place ≤ placeInOrder site h r
   walks : mayWalk site marks h (across h r) ≡ true
   below : r < site .n
 
@@ -125,11 +125,11 @@ stays : (site : Site) (marks : Marks) (h place left r : ℕ) → Untried site ma
 stays site marks h place left r all is =
     record { later = leb-true _ _ (and-left _ _ both); walks = walks; below = in-map (decLt r (site .n)) }
   where
-    both : (leb place (placeOf site h r) && mayWalk site marks h (across h r)) ≡ true
+    both : (leb place (placeInOrder site h r) && mayWalk site marks h (across h r)) ≡ true
     both = sym (all r) ∙ is
 
     walks : mayWalk site marks h (across h r) ≡ true
-    walks = and-right (leb place (placeOf site h r)) _ both
+    walks = and-right (leb place (placeInOrder site h r)) _ both
 
     in-map : Dec (r < site .n) → r < site .n
     in-map (yes l) = l
@@ -156,18 +156,18 @@ none-left plan marks h place order half all = pick (decLt (plan .site .n + 1) pl
 
 module _ (plan : Plan) (marks : Marks) (h place left : ℕ) (order : plan .order ≡ rising) (half : h < 2 * plan .site .n) (all : Untried (plan .site) marks h place left) where
   -- the first radio left, by its place
-  found : (r : ℕ) → member r left ≡ true → ((v : ℕ) → v < plan .site .n → placeOf (plan .site) h v < placeOf (plan .site) h r → member v left ≡ false) → Next plan marks h place r
+  found : (r : ℕ) → member r left ≡ true → ((v : ℕ) → v < plan .site .n → placeInOrder (plan .site) h v < placeInOrder (plan .site) h r → member v left ≡ false) → NextRadio plan marks h place r
   found r is none =
       let left-r = stays (plan .site) marks h place left r all is in
       let at = placed (plan .site) h r half (left-r .below) in
       record {
         found =
             in-order plan marks h place order
-            ∙ first-is (canTry (plan .site) marks h) place (plan .site .n + 1) (placeOf (plan .site) h r) (omega (arith, left-r .later, at .low))
+            ∙ first-is (canTry (plan .site) marks h) place (plan .site .n + 1) (placeInOrder (plan .site) h r) (omega (arith, left-r .later, at .low))
             (record {
               from = left-r .later;
               within = omega (arith, at .low);
-              before = λ j p l. none-before (plan .site) marks h place left half all (placeOf (plan .site) h r) none j p (omega (arith, at .low)) l;
+              before = λ j p l. none-before (plan .site) marks h place left half all (placeInOrder (plan .site) h r) none j p (omega (arith, at .low)) l;
               found = λ l. try-at (plan .site) marks h r half (left-r .below) ∙ left-r .walks;
             });
         below = left-r .below;
@@ -175,7 +175,7 @@ module _ (plan : Plan) (marks : Marks) (h place left : ℕ) (order : plan .order
       }
 
   -- what is left once the next has been tried
-  pub untried-less : (r left′ : ℕ) → Next plan marks h place r → ((v : ℕ) → member v left′ ≡ (not (eqb v r) && member v left)) → Untried (plan .site) marks h (suc (placeOf (plan .site) h r)) left′
+  pub untried-less : (r left′ : ℕ) → NextRadio plan marks h place r → ((v : ℕ) → member v left′ ≡ (not (eqb v r) && member v left)) → Untried (plan .site) marks h (suc (placeInOrder (plan .site) h r)) left′
   untried-less r left′ next less =
       less-first (plan .site) marks h place left half all r left′ (next .below)
       (subst (First (canTry (plan .site) marks h) place (plan .site .n + 1)) (sym (in-order plan marks h place order) ∙ next .found) (first-from (canTry (plan .site) marks h) place (plan .site .n + 1) (start (decLt (plan .site .n + 1) place))))
@@ -191,7 +191,7 @@ module _ (plan : Plan) (marks : Marks) (h place left : ℕ) (order : plan .order
     other-left v e = is-others v ∙ rw (ne-eqb v (radioOf h) e) refl
 
     -- the first of them is the next
-    pub next-other : (r : ℕ) → First (λ v. member v others) 0 64 r → r < 64 → Next plan marks h place r
+    pub next-other : (r : ℕ) → First (λ v. member v others) 0 64 r → r < 64 → NextRadio plan marks h place r
     next-other r first fits = found r is-left (λ v p l. before v l (ℕ-discrete v (radioOf h)))
       where
         is : (not (eqb r (radioOf h)) && member r left) ≡ true
@@ -200,16 +200,16 @@ module _ (plan : Plan) (marks : Marks) (h place left : ℕ) (order : plan .order
         is-left : member r left ≡ true
         is-left = and-right (not (eqb r (radioOf h))) _ is
 
-        own-later : placeOf (plan .site) h r ≡ r
+        own-later : placeInOrder (plan .site) h r ≡ r
         own-later = other-place (plan .site) h r (eqb-false _ _ (not-true _ (and-left _ _ is)))
 
-        before : (v : ℕ) → placeOf (plan .site) h v < placeOf (plan .site) h r → Dec (v ≡ radioOf h) → member v left ≡ false
+        before : (v : ℕ) → placeInOrder (plan .site) h v < placeInOrder (plan .site) h r → Dec (v ≡ radioOf h) → member v left ≡ false
         before v l (no e) = sym (other-left v e) ∙ first .before v (omega arith) (omega (arith, other-place (plan .site) h v e, own-later))
         before v l (yes e) = absurd (omega (arith, own-place (plan .site) h v e, own-later, stays (plan .site) marks h place left r all is-left .below))
 
     -- where there is none of them, its own is
-    pub next-own : others ≡ 0 → left < 2 ^ 64 → (left ≡ 0 → ⊥) → Next plan marks h place (radioOf h)
-    next-own none small some = found (radioOf h) own (λ v p l. not-other v (λ e. omega (arith, ap (placeOf (plan .site) h) e)))
+    pub next-own : others ≡ 0 → left < 2 ^ 64 → (left ≡ 0 → ⊥) → NextRadio plan marks h place (radioOf h)
+    next-own none small some = found (radioOf h) own (λ v p l. not-other v (λ e. omega (arith, ap (placeInOrder (plan .site) h) e)))
       where
         not-other : (v : ℕ) → (v ≡ radioOf h → ⊥) → member v left ≡ false
         not-other v e = sym (other-left v e) ∙ rw none (member-empty v)
@@ -225,24 +225,24 @@ module _ (plan : Plan) (marks : Marks) (h place left : ℕ) (order : plan .order
 
 -- of a half that has tried nothing all is left
 pub untried-whole : (site : Site) (marks : Marks) (h : ℕ) (rows : List ℕ) → Open site marks rows → Untried site marks h 0 (getD rows h 0)
-untried-whole site marks h rows now v = now h v ∙ rw (le-leb 0 (placeOf site h v) (omega arith)) refl
+untried-whole site marks h rows now v = now h v ∙ rw (le-leb 0 (placeInOrder site h v) (omega arith)) refl
 
 module _ (site : Site) (marks : Marks) (h v row : ℕ) (below : v < site .n) (is : (j : ℕ) → member j row ≡ mayWalk site marks h (across h j)) where
   -- its own half comes last
-  pub after-own : v ≡ radioOf h → (j : ℕ) → false ≡ (leb (suc (placeOf site h v)) (placeOf site h j) && mayWalk site marks h (across h j))
+  pub after-own : v ≡ radioOf h → (j : ℕ) → false ≡ (leb (suc (placeInOrder site h v)) (placeInOrder site h j) && mayWalk site marks h (across h j))
   after-own e j = sym (pick (ℕ-discrete j (radioOf h)) (decLt j (site .n)))
     where
-      pick : Dec (j ≡ radioOf h) → Dec (j < site .n) → (leb (suc (placeOf site h v)) (placeOf site h j) && mayWalk site marks h (across h j)) ≡ false
+      pick : Dec (j ≡ radioOf h) → Dec (j < site .n) → (leb (suc (placeInOrder site h v)) (placeInOrder site h j) && mayWalk site marks h (across h j)) ≡ false
       pick (yes d) l = rw (own-place site h v e, own-place site h j d, lt-leb (suc (site .n)) (site .n) (omega arith)) refl
       pick (no d) (yes l) = rw (own-place site h v e, other-place site h j d, lt-leb (suc (site .n)) j (omega arith)) refl
       pick (no d) (no l) = rw (walk-below site marks h j (omega arith), and-false) refl
 
   -- another is followed by the radios above it, and by its own half
   pub after-other : (v ≡ radioOf h → ⊥) → (j : ℕ)
-      → ((not (eqb j v) && (not (ltb j v) && member j row)) || (member j row && not (not (eqb j (radioOf h)) && member j row))) ≡ (leb (suc (placeOf site h v)) (placeOf site h j) && mayWalk site marks h (across h j))
+      → ((not (eqb j v) && (not (ltb j v) && member j row)) || (member j row && not (not (eqb j (radioOf h)) && member j row))) ≡ (leb (suc (placeInOrder site h v)) (placeInOrder site h j) && mayWalk site marks h (across h j))
   after-other ne j = rw (is j, other-place site h v ne) (pick (ℕ-discrete j (radioOf h)) (ℕ-discrete j v) (decLt j v) (mayWalk site marks h (across h j)))
     where
-      pick : Dec (j ≡ radioOf h) → Dec (j ≡ v) → Dec (j < v) → (b : Bool) → ((not (eqb j v) && (not (ltb j v) && b)) || (b && not (not (eqb j (radioOf h)) && b))) ≡ (leb (suc v) (placeOf site h j) && b)
+      pick : Dec (j ≡ radioOf h) → Dec (j ≡ v) → Dec (j < v) → (b : Bool) → ((not (eqb j v) && (not (ltb j v) && b)) || (b && not (not (eqb j (radioOf h)) && b))) ≡ (leb (suc v) (placeInOrder site h j) && b)
       pick (yes e) d l true = rw (eq-eqb j (radioOf h) e, or-true, le-leb (suc v) (site .n) (omega arith)) refl
       pick (yes e) d l false = simp and-false
       pick (no e) d l false = simp and-false

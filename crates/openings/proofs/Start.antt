@@ -41,34 +41,34 @@ module _ (site : Site) (u : ℕ) where
   T-sends-none e v = member-empty v ∙ sym (rw e (none-from-T site v))
 
 -- row h is right where nothing is marked
-abbrev Starts : Site → ℕ → ℕ → Type 0
-Starts site h x = (v : ℕ) → member v x ≡ mayWalk site unmarked h (across h v)
+abbrev StartsAt : Site → ℕ → ℕ → Type 0
+StartsAt site h x = (v : ℕ) → member v x ≡ mayWalk site unmarked h (across h v)
 
-pub in-starts : (site : Site) (u x : ℕ) → ((v : ℕ) → member v x ≡ (eqb v u && passes site u)) → Starts site (inHalf u) x
+pub in-starts : (site : Site) (u x : ℕ) → ((v : ℕ) → member v x ≡ (eqb v u && passes site u)) → StartsAt site (inHalf u) x
 in-starts site u x is v = is v ∙ sym (rw (from-in u v) (walk-unmarked site (inHalf u) (outHalf v) ∙ step-inside site u (outHalf v) ∙ rw (same (ℕ-discrete v u)) refl))
   where
     same : Dec (v ≡ u) → eqb (outHalf v) (outHalf u) ≡ eqb v u
     same (yes e) = rw (eq-eqb v u e) (eq-eqb (outHalf v) (outHalf u) (omega arith))
     same (no e) = rw (ne-eqb v u e) (ne-eqb (outHalf v) (outHalf u) (λ d. e (omega arith)))
 
-pub out-starts : (site : Site) (u x : ℕ) → ((v : ℕ) → member v x ≡ step site (outHalf u) (inHalf v)) → Starts site (outHalf u) x
+pub out-starts : (site : Site) (u x : ℕ) → ((v : ℕ) → member v x ≡ step site (outHalf u) (inHalf v)) → StartsAt site (outHalf u) x
 out-starts site u x is v = is v ∙ sym (rw (from-out u v) (walk-unmarked site (outHalf u) (inHalf v)))
 
 -- ---- all rows
 
 -- the rows below k are filled, and the others are empty
-abbrev pub Filled : Site → List ℕ → ℕ → Type 0
-Filled site rows k = (h v : ℕ) → member v (getD rows h 0) ≡ (ltb h k && mayWalk site unmarked h (across h v))
+abbrev pub FilledTo : Site → List ℕ → ℕ → Type 0
+FilledTo site rows k = (h v : ℕ) → member v (getD rows h 0) ≡ (ltb h k && mayWalk site unmarked h (across h v))
 
 zeros : (n i : ℕ) → _≡_ {A = ℕ} (getD (replicate n 0) i 0) 0
 zeros zero i = refl
 zeros (suc n) zero = refl
 zeros (suc n) (suc i) = zeros n i
 
-pub none-filled : (site : Site) (rows : List ℕ) → rows ≡ replicate 128 0 → Filled site rows 0
+pub none-filled : (site : Site) (rows : List ℕ) → rows ≡ replicate 128 0 → FilledTo site rows 0
 none-filled site rows e h v = rw (e, zeros 128 h, le-ltb h 0 (omega arith)) (member-empty v)
 
-pub one-more : (site : Site) (rows : List ℕ) (k x : ℕ) → k < length rows → Starts site k x → Filled site rows k → Filled site (set rows k x) (k + 1)
+pub one-more : (site : Site) (rows : List ℕ) (k x : ℕ) → k < length rows → StartsAt site k x → FilledTo site rows k → FilledTo site (set rows k x) (k + 1)
 one-more site rows k x l is filled h v = pick (ℕ-discrete h k) (decLt h k)
   where
     pick : Dec (h ≡ k) → Dec (h < k) → member v (getD (set rows k x) h 0) ≡ (ltb h (k + 1) && mayWalk site unmarked h (across h v))
@@ -77,7 +77,7 @@ one-more site rows k x l is filled h v = pick (ℕ-discrete h k) (decLt h k)
     pick (no e) (no m) = ap (member v) (getD-set-other rows k h x 0 e) ∙ filled h v ∙ rw (le-ltb h k (omega arith), le-ltb h (k + 1) (omega arith)) refl
 
 -- no half past those of the map walks anywhere
-pub all-filled : (site : Site) (rows : List ℕ) → Filled site rows (2 * site .n) → Open site unmarked rows
+pub all-filled : (site : Site) (rows : List ℕ) → FilledTo site rows (2 * site .n) → Open site unmarked rows
 all-filled site rows filled h v = filled h v ∙ pick (decLt h (2 * site .n))
   where
     pick : Dec (h < 2 * site .n) → (ltb h (2 * site .n) && mayWalk site unmarked h (across h v)) ≡ mayWalk site unmarked h (across h v)

@@ -22,14 +22,14 @@ pub from-in : (u v : ℕ) → across (inHalf u) v ≡ outHalf v
 from-in u v = rw (in-is-not-out u) refl
 
 -- a half is an in half or an out half
-pub data Kind (h : ℕ) : Type 0 where
-  in-of : (u : ℕ) → h ≡ inHalf u → Kind h
-  out-of : (u : ℕ) → h ≡ outHalf u → Kind h
+pub data Side (h : ℕ) : Type 0 where
+  in-of : (u : ℕ) → h ≡ inHalf u → Side h
+  out-of : (u : ℕ) → h ≡ outHalf u → Side h
 
-pub kind : (h : ℕ) → Kind h
-kind h = go (ℕ-discrete (h % 2) 1)
+pub side : (h : ℕ) → Side h
+side h = go (ℕ-discrete (h % 2) 1)
   where
-    go : Dec (h % 2 ≡ 1) → Kind h
+    go : Dec (h % 2 ≡ 1) → Side h
     go (yes e) = out-of (h / 2) (omega arith)
     go (no e) = in-of (h / 2) (omega arith)
 
@@ -46,7 +46,7 @@ pub joined-step : (site : Site) (a b : ℕ) → Joined site a b → Step site a 
 joined-step site a b (inl e) = inl (step-of site a b e)
 joined-step site a b (inr e) = inr (step-of site b a e)
 
--- joined halves are halves of the map, one of each kind, so each stands for itself in the other's row
+-- joined halves are halves of the map, one of each side, so each stands for itself in the other's row
 pub record Pair (site : Site) (h y : ℕ) : Type 0 where
   pub first : h < 2 * site .n
   pub second : y < 2 * site .n
@@ -62,16 +62,16 @@ pair site h y j = go (joined-step site h y j)
     go (inr (over u v a b e nt ns)) = let w = linked-says site u v e in record { first = omega (arith, w .to-below); second = omega (arith, w .from-below); differ = omega arith }
 
 pub across-is : (h y : ℕ) → (h + y) % 2 ≡ 1 → across h (y / 2) ≡ y
-across-is h y e = go (kind h)
+across-is h y e = go (side h)
   where
-    go : Kind h → across h (y / 2) ≡ y
+    go : Side h → across h (y / 2) ≡ y
     go (in-of u d) = rw d (from-in u (y / 2) ∙ omega arith)
     go (out-of u d) = rw d (from-out u (y / 2) ∙ omega arith)
 
 pub across-radio : (h v : ℕ) → across h v / 2 ≡ v
-across-radio h v = go (kind h)
+across-radio h v = go (side h)
   where
-    go : Kind h → across h v / 2 ≡ v
+    go : Side h → across h v / 2 ≡ v
     go (in-of u d) = rw (d, from-in u v) (radio-of-out v)
     go (out-of u d) = rw (d, from-out u v) (radio-of-in v)
 

@@ -27,16 +27,16 @@ marksOf site rows a b = step site a b && not (member (radioOf b) (getD rows a 0)
 -- ---- the order of trying
 
 -- a radio's place in half h's order: its own number, and n for h's own radio
-abbrev pub placeOf : Site → ℕ → ℕ → ℕ
-placeOf site h v = cond (eqb v (radioOf h)) (site .n) v
+abbrev pub placeInOrder : Site → ℕ → ℕ → ℕ
+placeInOrder site h v = cond (eqb v (radioOf h)) (site .n) v
 
 -- the radios that half h can walk to now and that stand at this place of its order or later
 abbrev pub Untried : Site → Marks → ℕ → ℕ → ℕ → Type 0
-Untried site marks h place left = (v : ℕ) → member v left ≡ (leb place (placeOf site h v) && mayWalk site marks h (across h v))
+Untried site marks h place left = (v : ℕ) → member v left ≡ (leb place (placeInOrder site h v) && mayWalk site marks h (across h v))
 
 -- radio r stands at the first place from this one on that half h can walk to now
-pub record Next (plan : Plan) (marks : Marks) (h place r : ℕ) : Type 0 where
-  pub found : nextPlace plan marks h place ≡ placeOf (plan .site) h r
+pub record NextRadio (plan : Plan) (marks : Marks) (h place r : ℕ) : Type 0 where
+  pub found : nextPlace plan marks h place ≡ placeInOrder (plan .site) h r
   pub below : r < plan .site .n
   pub walks : mayWalk (plan .site) marks h (across h r) ≡ true
 

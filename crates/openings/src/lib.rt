@@ -9,7 +9,7 @@ ghost use Rattle.radios.specs.Member.{member};
 ghost use Rattle.site.specs.Limits.{mostRadios};
 ghost use Rattle.site.specs.Map.{Site, inHalf, outHalf, radioOf, step, passes};
 ghost use Rattle.tokens.specs.Rules.{Plan, Marks, mayWalk, rising, unmarked, reversed, nextMarked};
-ghost use Rattle.openings.specs.Rows.{across, Open, Joined, OnSteps, Untried, Next, placeOf};
+ghost use Rattle.openings.specs.Rows.{across, Open, Joined, OnSteps, Untried, NextRadio, placeInOrder};
 ghost use Rattle.radios.specs.Links.{RowsOfLinks};
 
 // ---- the start: nothing is marked
@@ -87,7 +87,7 @@ pub fn half_across(h: usize, v: usize) -> usize
 // The radio that half h tries next, of those it has left: the first of the others, its own last.
 pub fn next(left: u64, h: usize) -> usize
     requires { ⌜ (h < 2 * mostRadios) × (left ≡ 0 → ⊥) ⌝ }
-    ensures { λ r. ⌜ (r < mostRadios) × ((plan : Plan) (marks : Marks) (place : ℕ) → plan .order ≡ rising → plan .site .n ≤ mostRadios → h < 2 * plan .site .n → Untried (plan .site) marks h place left → Next plan marks h place r) ⌝ }
+    ensures { λ r. ⌜ (r < mostRadios) × ((plan : Plan) (marks : Marks) (place : ℕ) → plan .order ≡ rising → plan .site .n ≤ mostRadios → h < 2 * plan .site .n → Untried (plan .site) marks h place left → NextRadio plan marks h place r) ⌝ }
 {
     let u = h / 2;
     let others = radios::without(left, u);
@@ -100,7 +100,7 @@ pub fn next(left: u64, h: usize) -> usize
 // What is left of half h's row once radio v has been tried.
 pub fn after(row: u64, h: usize, v: usize) -> u64
     requires { ⌜ (h < 2 * mostRadios) × (v < mostRadios) ⌝ }
-    ensures { λ r. ⌜ ((site : Site) (marks : Marks) → v < site .n → ((j : ℕ) → member j row ≡ mayWalk site marks h (across h j)) → Untried site marks h (suc (placeOf site h v)) r) ⌝ }
+    ensures { λ r. ⌜ ((site : Site) (marks : Marks) → v < site .n → ((j : ℕ) → member j row ≡ mayWalk site marks h (across h j)) → Untried site marks h (suc (placeInOrder site h v)) r) ⌝ }
 {
     let u = h / 2;
     if v == u {

@@ -18,19 +18,19 @@ use Rattle.paths.proofs.Log.{arrived}
 
 -- ---- S and the first radio, stored at 1 and 2
 
-abbrev pub begun : List ℕ → ℕ → ℕ → List ℕ
-begun list u v = set (set list 1 u) 2 v
+abbrev pub path-begun : List ℕ → ℕ → ℕ → List ℕ
+path-begun list u v = set (set list 1 u) 2 v
 
-pub begun-length : (list : List ℕ) (u v : ℕ) → length (begun list u v) ≡ length list
+pub begun-length : (list : List ℕ) (u v : ℕ) → length (path-begun list u v) ≡ length list
 begun-length list u v = simp length-set
 
-begun-front : (list : List ℕ) (u v : ℕ) → 3 ≤ length list → begun list u v ≡ (getD (begun list u v) 0 0 ∷ u ∷ v ∷ []) ++ drop 3 (begun list u v)
+begun-front : (list : List ℕ) (u v : ℕ) → 3 ≤ length list → path-begun list u v ≡ (getD (path-begun list u v) 0 0 ∷ u ∷ v ∷ []) ++ drop 3 (path-begun list u v)
 begun-front [] u v room = absurd (omega arith)
 begun-front (x ∷ []) u v room = absurd (omega arith)
 begun-front (x ∷ y ∷ []) u v room = absurd (omega arith)
 begun-front (x ∷ y ∷ z ∷ list) u v room = refl
 
-begun-after : (list : List ℕ) (u v n : ℕ) → 3 ≤ n → drop n (begun list u v) ≡ drop n list
+begun-after : (list : List ℕ) (u v n : ℕ) → 3 ≤ n → drop n (path-begun list u v) ≡ drop n list
 begun-after list u v n l = drop-set-lt n (set list 1 u) 2 v (omega arith) ∙ drop-set-lt n list 1 u (omega arith)
 
 -- ---- what a DONE that reaches a radio says
@@ -49,7 +49,7 @@ module _ {log : List ℕ} {messages s : ℕ} {site : Site} {entries : List Entry
 -- ---- a path under way
 
 -- the number of a path's radios is still to be stored, and before the first message that is not yet read stand so many radios of it
-pub record Under (before rest : List ℕ) (used next : ℕ) (site : Site) (entries : List Entry) (path : List ℕ) (later : List (List ℕ)) : Type 0 where
+pub record UnderWay (before rest : List ℕ) (used next : ℕ) (site : Site) (entries : List Entry) (path : List ℕ) (later : List (List ℕ)) : Type 0 where
   pub passed : List ℕ
   pub whole : path ≡ passed ++ walked site (drop next entries) .onward
   pub after : walked site (drop next entries) .paths ≡ later
@@ -69,7 +69,7 @@ module _ {log : List ℕ} {at messages s : ℕ} {site : Site} {entries : List En
     two-fit = omega (arith, ap length (first-two .0))
 
     pub under-begun : (list : List ℕ) (first : RawMessage) (next : ℕ) → 3 ≤ length list → first ≡ rawAt log at → NextArrival log (at + 1) messages next
-        → Under (begun list s (radioOf (first .to))) (begun list s (radioOf (first .to))) 3 next site entries path later
+        → UnderWay (path-begun list s (radioOf (first .to))) (path-begun list s (radioOf (first .to))) 3 next site entries path later
     under-begun list first next room read arrival =
         let same = arrival .passed s site entries (walks .told) in
         let to : radioOf (first .to) ≡ radioOf (rawAt log at .to) = ap (λ (m : RawMessage). radioOf (m .to)) read in
@@ -81,7 +81,7 @@ module _ {log : List ℕ} {at messages s : ℕ} {site : Site} {entries : List En
           written = begun-front list s _ room;
         }
 
-  module _ {before rest : List ℕ} {used next : ℕ} (under : Under before rest used next site entries path later) where
+  module _ {before rest : List ℕ} {used next : ℕ} (under : UnderWay before rest used next site entries path later) where
     pub so-far-fits : used ≤ suc (length path)
     so-far-fits = omega (arith, under .counted, simp length-append at (ap length (under .whole)))
 
@@ -101,7 +101,7 @@ module _ {log : List ℕ} {at messages s : ℕ} {site : Site} {entries : List En
       pub one-fits : used ≤ length path
       one-fits = omega (arith, simp length-append at (ap length continued), under .counted)
 
-      pub one-more : (next′ : ℕ) → used < length before → NextArrival log (next + 1) messages next′ → Under before (set rest used (radioOf (heard .to))) (used + 1) next′ site entries path later
+      pub one-more : (next′ : ℕ) → used < length before → NextArrival log (next + 1) messages next′ → UnderWay before (set rest used (radioOf (heard .to))) (used + 1) next′ site entries path later
       one-more next′ room arrival =
           let same = arrival .passed s site entries (walks .told) in
           record {
@@ -119,7 +119,7 @@ module _ {log : List ℕ} {at messages s : ℕ} {site : Site} {entries : List En
   path-ends next (inr h) = ap (λ (w : Walked). w .onward) (path-starts (walks .told) next (h .0) (h .1) (h .2))
 
 -- the number of radios is stored last
-pub path-left : (list : List ℕ) (s v : ℕ) {rest : List ℕ} {used next : ℕ} {site : Site} {entries : List Entry} {path : List ℕ} {later : List (List ℕ)} → 3 ≤ used → Under (begun list s v) rest used next site entries path later
+pub path-left : (list : List ℕ) (s v : ℕ) {rest : List ℕ} {used next : ℕ} {site : Site} {entries : List Entry} {path : List ℕ} {later : List (List ℕ)} → 3 ≤ used → UnderWay (path-begun list s v) rest used next site entries path later
     → walked site (drop next entries) .onward ≡ [] → PathLeft site entries path later list (set rest 0 (used - 1)) (record { next = next; used = used })
 path-left list s v {used = used} {path = path} l under none =
     let all : path ≡ under .passed = under .whole ∙ rw none (append-nil (under .passed)) in

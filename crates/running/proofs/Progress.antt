@@ -24,7 +24,7 @@ use Rattle.machine.specs.View.{enteredOf, isWon, notesIn, stateIn, stateOf, nex
 use Rattle.machine.specs.Step.{Follows, Steps}
 use Rattle.machine.proofs.Stages.{in-stage}
 use Rattle.running.specs.Run.{Leaves}
-use Rattle.running.specs.Progress.{Beginning, Begun, wholeRun, Way, Partly}
+use Rattle.running.specs.Progress.{Beginning, Begun, wholeRun, Standing, Partly}
 use Rattle.running.proofs.Sane.{Sound, sound-step, sane-rounds}
 
 -- ---- the run

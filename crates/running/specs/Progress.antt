@@ -16,7 +16,7 @@ abbrev pub following : List Entry → Run → Run
 following log run = record { log = log ++ run .log; last = run .last }
 
 -- for a plan: the machine is ready, and the whole run is what was sent and the run from here
-pub record Way (plan : Plan) (task : Task) (links : List ℕ) (whole : Run) (log : List Entry) (left : ℕ) (machine : Machine) (rows entered halves : List ℕ) : Type 0 where
+pub record Standing (plan : Plan) (task : Task) (links : List ℕ) (whole : Run) (log : List Entry) (left : ℕ) (machine : Machine) (rows entered halves : List ℕ) : Type 0 where
   pub place : ℕ
   pub ready : Ready plan place task machine links rows entered halves
   pub so-far : whole ≡ following log (runFrom plan left (stateOf (plan .site) place machine rows entered halves))
@@ -42,7 +42,7 @@ pub record Partly (task : Task) (budget : ℕ) (links : List ℕ) (begin : Begin
   pub number : length log ≡ sent
   pub within : sent ≤ budget
   pub filled : Filled log (begin .log) bytes
-  pub way : (plan : Plan) → Begun plan task links begin → Way plan task links (wholeRun plan budget begin) log (budget - sent) machine rows entered halves
+  pub way : (plan : Plan) → Begun plan task links begin → Standing plan task links (wholeRun plan budget begin) log (budget - sent) machine rows entered halves
 
 -- the messages sent so far and where the machine stands, from one place of the run to a later one: whatever run came so far has come further
 pub record Onward (task : Task) (budget : ℕ) (entered bytes : List ℕ) (machine : Machine) (sent : ℕ) (bytes′ : List ℕ) (machine′ : Machine) (sent′ : ℕ) : Type 0 where

@@ -6,12 +6,12 @@ use native.Mathlib.Numerals.{add-one}
 use lib.ListN.{length, getD, drop, drop-of-length-le}
 use Rattle.sheet_lines.specs.Lines.{pathLines}
 use Rattle.sheet_lines.specs.Written.{Written}
-use Rattle.sheet_lines.proofs.Writing.{Partly, partly-none, partly-room, partly-more, partly-all, room-first, left-opened}
+use Rattle.sheet_lines.proofs.Writing.{PartWritten, partly-none, partly-room, partly-more, partly-all, room-first, left-opened}
 use Rattle.sheet_lines.proofs.Lines.{path-then}
 
 -- the first i paths are passed: their lines are written
 pub record Passed (before after : List ℕ) (at next i : ℕ) (paths : List (List ℕ)) : Type 0 where
-  pub partly : Partly before after at (pathLines 1 paths []) (pathLines (i + 1) (drop i paths) []) next
+  pub partly : PartWritten before after at (pathLines 1 paths []) (pathLines (i + 1) (drop i paths) []) next
 
 pub passed-none : (before : List ℕ) (at : ℕ) (paths : List (List ℕ)) → at ≤ length before → Passed before before at at 0 paths
 passed-none before at paths room = record { partly = partly-none before at (pathLines 1 paths []) room }

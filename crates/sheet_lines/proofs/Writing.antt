@@ -87,26 +87,26 @@ left-opened none list i h = drop-cons list i none h ∙ ap (λ (n : ℕ). getD l
 -- ---- a text of which a part is left to be written
 
 -- what is done stands in the buffer from `at` up to `next`
-pub record Partly (before after : List ℕ) (at : ℕ) (whole left : List ℕ) (next : ℕ) : Type 0 where
+pub record PartWritten (before after : List ℕ) (at : ℕ) (whole left : List ℕ) (next : ℕ) : Type 0 where
   pub done : List ℕ
   pub written : Written before after at done next
   pub together : done ++ left ≡ whole
 
-pub partly-none : (before : List ℕ) (at : ℕ) (whole : List ℕ) → at ≤ length before → Partly before before at whole whole at
+pub partly-none : (before : List ℕ) (at : ℕ) (whole : List ℕ) → at ≤ length before → PartWritten before before at whole whole at
 partly-none before at whole h = record { done = []; written = nothing before at h; together = refl }
 
 -- the room for what is left
-pub partly-room : {before after : List ℕ} {at : ℕ} {whole left : List ℕ} {next : ℕ} → Partly before after at whole left next → at + length whole ≤ length before → next + length left ≤ length after
+pub partly-room : {before after : List ℕ} {at : ℕ} {whole left : List ℕ} {next : ℕ} → PartWritten before after at whole left next → at + length whole ≤ length before → next + length left ≤ length after
 partly-room {before} {after} {at} {whole} {left} p h = room-then (p .written) left (rw (p .together) h)
 
-pub partly-more : {before middle after : List ℕ} {at : ℕ} {whole left : List ℕ} {next : ℕ} {bytes : List ℕ} {last : ℕ} (rest : List ℕ) → Partly before middle at whole left next → left ≡ bytes ++ rest
-    → Written middle after next bytes last → Partly before after at whole rest last
+pub partly-more : {before middle after : List ℕ} {at : ℕ} {whole left : List ℕ} {next : ℕ} {bytes : List ℕ} {last : ℕ} (rest : List ℕ) → PartWritten before middle at whole left next → left ≡ bytes ++ rest
+    → Written middle after next bytes last → PartWritten before after at whole rest last
 partly-more {bytes = bytes} rest p e w =
     record { done = p .done ++ bytes; written = join (p .written) w; together = append-assoc (p .done) bytes rest ∙ ap (λ (l : List ℕ). p .done ++ l) (sym e) ∙ p .together }
 
-pub partly-all : {before after : List ℕ} {at : ℕ} {whole left : List ℕ} {next : ℕ} → Partly before after at whole left next → left ≡ [] → Written before after at whole next
+pub partly-all : {before after : List ℕ} {at : ℕ} {whole left : List ℕ} {next : ℕ} → PartWritten before after at whole left next → left ≡ [] → Written before after at whole next
 partly-all {before} {after} {at} {whole} {left} {next} p e =
     subst (λ (l : List ℕ). Written before after at l next) (sym (append-nil (p .done)) ∙ ap (λ (l : List ℕ). p .done ++ l) (sym e) ∙ p .together) (p .written)
 
-pub partly-kept : {before after : List ℕ} {at : ℕ} {whole left : List ℕ} {next : ℕ} → Partly before after at whole left next → length after ≡ length before
+pub partly-kept : {before after : List ℕ} {at : ℕ} {whole left : List ℕ} {next : ℕ} → PartWritten before after at whole left next → length after ≡ length before
 partly-kept p = kept (p .written)

@@ -13,7 +13,7 @@ pub record Written (before after : List ℕ) (at : ℕ) (bytes : List ℕ) (next
   pub left : after ≡ take at before ++ bytes ++ drop next before
 
 -- the list holds some paths, and the buffer has room for their lines
-pub record Listed (out : List ℕ) (at : ℕ) (list : List ℕ) (count : ℕ) : Type 0 where
+pub record Printable (out : List ℕ) (at : ℕ) (list : List ℕ) (count : ℕ) : Type 0 where
   pub paths : List (List ℕ)
   pub listed : Holds list count paths
   pub room : at + length (pathLines 1 paths []) ≤ length out

@@ -8,7 +8,7 @@ ghost use Rattle.path_lists.specs.Bytes.{Holds};
 ghost use Rattle.captures.specs.Words.{full, short};
 ghost use Rattle.captures.specs.Text.{decimal};
 ghost use Rattle.sheet_lines.specs.Lines.{field, refusedLine, reportLine, radioFields, pathLines, itemWord, cutLines};
-ghost use Rattle.sheet_lines.specs.Written.{Written, Listed};
+ghost use Rattle.sheet_lines.specs.Written.{Written, Printable};
 use captures::LINE_FEED;
 use captures::TAB;
 use site::DIRECT_LINK;
@@ -153,7 +153,7 @@ fn put_path(out: &mut [u8], at: usize, number: usize, radios: &[u8]) -> usize
 
 // The lines of the first `count` paths of a path list. Each path's radios are lent as a part of the list.
 pub fn put_paths(out: &mut [u8], at: usize, list: &[u8], count: usize) -> usize
-    requires { ⌜ Listed (now out) at (now list) count ⌝ }
+    requires { ⌜ Printable (now out) at (now list) count ⌝ }
     ensures { λ r. ⌜ ((paths : List (List ℕ)) → Holds (now (list .entry)) count paths → Written (now (out .entry)) (now (out .exit)) at (pathLines 1 paths []) r) ⌝ }
 {
     let mut next = at;

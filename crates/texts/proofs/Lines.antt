@@ -46,21 +46,21 @@ line-open text at end number p e q =
 -- ---- line after line
 
 -- what is known before line `number`, which begins at `at` and ends at `end`: the lines before it have the right shape
-pub record Passed (text : List ℕ) (number at end : ℕ) : Type 0 where
+pub record PassedOver (text : List ℕ) (number at end : ℕ) : Type 0 where
   pub within : at ≤ length text
   pub ends : end ≡ endOf text at lineFeed
   pub few : number ≤ at + 1
   pub same : wrongLine 1 (pieces lineFeed text) ≡ wrongLine number (piecesFrom lineFeed text at)
 
-pub passed-none : (text : List ℕ) (end : ℕ) → end ≡ endOf text 0 lineFeed → Passed text 1 0 end
+pub passed-none : (text : List ℕ) (end : ℕ) → end ≡ endOf text 0 lineFeed → PassedOver text 1 0 end
 passed-none text end e =
     record { within = omega arith; ends = e; few = omega arith; same = ap (wrongLine 1) (sym (pieces-from lineFeed text 0 (omega arith))) }
 
-module _ (text : List ℕ) (number at end : ℕ) (passed : Passed text number at end) where
+module _ (text : List ℕ) (number at end : ℕ) (passed : PassedOver text number at end) where
   pub bounds : (at ≤ end) × (end ≤ length text)
   bounds = end-between lineFeed text at end (passed .within) (passed .ends)
 
-  pub passed-more : (next : ℕ) → end < length text → rightShape number (part text at end) ≡ true → next ≡ endOf text (end + 1) lineFeed → Passed text (number + 1) (end + 1) next
+  pub passed-more : (next : ℕ) → end < length text → rightShape number (part text at end) ≡ true → next ≡ endOf text (end + 1) lineFeed → PassedOver text (number + 1) (end + 1) next
   passed-more next q right e =
       record {
         within = omega arith;
@@ -98,7 +98,7 @@ pub record Begins (text : List ℕ) (end : ℕ) : Type 0 where
 pub begins : (text : List ℕ) (end : ℕ) → end ≡ endOf text 0 lineFeed → wrongLine 1 (pieces lineFeed text) ≡ 0 → Begins text end
 begins text end e right = go (decLt end (length text))
   where
-    passed : Passed text 1 0 end
+    passed : PassedOver text 1 0 end
     passed = passed-none text end e
 
     whole : part text 0 end ≡ take end text

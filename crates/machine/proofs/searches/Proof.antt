@@ -4,7 +4,7 @@ use Prim.Native.Nat.{ℕ, _*_, _<_}
 use native.Mathlib.Omega.{arith}
 use borrow.Author.Tests.{eqb-true, eqb-false}
 use Rattle.tokens.specs.Rules.{Plan}
-use Rattle.openings.specs.Rows.{Next}
+use Rattle.openings.specs.Rows.{NextRadio}
 use Rattle.openings.proofs.Walks.{across-radio}
 use Rattle.machine.specs.View.{marksOf}
 use Rattle.machine.specs.Step.{Ready}
@@ -21,7 +21,7 @@ facts c = searches (c .pre .1 .2) (c .pre .0)
 
 -- the radio that is tried next
 next-is : (c : tie.After-next) (plan : Plan) (place : ℕ) → let at = past tie.Start (search) .args in Ready plan place (at .task) (at .machine) (at .links .now) (at .rows .now) (at .entered .now) (at .halves .now)
-    → Next plan (marksOf (plan .site) (at .rows .now)) (at .machine .half) place (c .next .result)
+    → NextRadio plan (marksOf (plan .site) (at .rows .now)) (at .machine .half) place (c .next .result)
 next-is c plan place ready =
     let start = past tie.Start (search) in
     let top = search-top ready (start .pre .0) in

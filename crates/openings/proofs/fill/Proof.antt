@@ -5,13 +5,13 @@ use native.Mathlib.Omega.{arith}
 use lib.ListN.{set, length, length-set}
 use Rattle.site.specs.Map.{Site}
 use Rattle.radios.specs.Links.{RowsOfLinks}
-use Rattle.openings.proofs.Start.{in-starts, out-starts, Filled, none-filled, one-more, all-filled}
+use Rattle.openings.proofs.Start.{in-starts, out-starts, FilledTo, none-filled, one-more, all-filled}
 use Rattle.openings.proofs.fill.Statement.{statement}
 use Rattle.openings.proofs.fill.Tie as tie
 
 abbrev Inv-loop : tie.InvT-loop
 Inv-loop n s t links all₀ u₀ all u =
-    (u ≤ n) × (length all ≡ 128) × ((site : Site) → site .n ≡ n → site .S ≡ s → site .T ≡ t → RowsOfLinks (site .table) (site .n) links → Filled site all (2 * u))
+    (u ≤ n) × (length all ≡ 128) × ((site : Site) → site .n ≡ n → site .S ≡ s → site .T ≡ t → RowsOfLinks (site .table) (site .n) links → FilledTo site all (2 * u))
 
 abbrev μ-loop : tie.MeasureT-loop
 μ-loop n s t links all₀ u₀ all u = n - u
@@ -30,7 +30,7 @@ loop-again c =
       simp length-set (loop .inv .1),
       λ site radios source sink links.
           let two : 2 * loop .u + 1 + 1 ≡ 2 * (loop .u + 1) = omega arith in
-          subst (Filled site (set (set (loop .all) (2 * loop .u) (inner .result)) (2 * loop .u + 1) (c .outward .result))) two
+          subst (FilledTo site (set (set (loop .all) (2 * loop .u) (inner .result)) (2 * loop .u + 1) (c .outward .result))) two
           (one-more site (set (loop .all) (2 * loop .u) (inner .result)) (2 * loop .u + 1) _ (simp length-set (omega arith)) (out-starts site (loop .u) _ (λ v. c .outward .ensures site (past tie.Start (search) .args .links .now) v source sink links refl))
           (one-more site (loop .all) (2 * loop .u) _ (omega arith) (in-starts site (loop .u) _ (λ v. inner .ensures site v (omega arith) source sink)) (loop .inv .2 site radios source sink links))),
     )
@@ -39,7 +39,7 @@ returns : tie.Need-returns Inv-loop μ-loop
 returns c =
     let loop = past tie.At-loop (search) .loop in
     λ site radios source sink links.
-    all-filled site (loop .all) (subst (λ (k : ℕ). Filled site (loop .all) k) (omega arith) (loop .inv .2 site radios source sink links))
+    all-filled site (loop .all) (subst (λ (k : ℕ). FilledTo site (loop .all) k) (omega arith) (loop .inv .2 site radios source sink links))
 
 pub fill-spec : {M : Type 1} → statement M
 fill-spec =

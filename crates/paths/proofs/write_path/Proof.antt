@@ -1,4 +1,4 @@
--- `paths::write_path` meets its contract. The loop's invariant: what `Under` says of the path. Assumes nothing.
+-- `paths::write_path` meets its contract. The loop's invariant: what `UnderWay` says of the path. Assumes nothing.
 use mathlib.Core.Path.{_≡_, refl, _∙_}
 use mathlib.Core.List.{List}
 use mathlib.Core.Logic.{⊎-elim, inl, inr}
@@ -11,7 +11,7 @@ use Rattle.log.specs.Bytes.{RoomFor}
 use Rattle.log.specs.Read.{rawAt}
 use Rattle.paths.specs.Listing.{Arrives, Walks, Startable}
 use Rattle.paths.proofs.Log.{log-room, from-is}
-use Rattle.paths.proofs.Walking.{begun, begun-length, Under, two-fit, under-begun, so-far-fits, one-fits, one-more, path-ends, path-left}
+use Rattle.paths.proofs.Walking.{path-begun, begun-length, UnderWay, two-fit, under-begun, so-far-fits, one-fits, one-more, path-ends, path-left}
 use Rattle.paths.proofs.write_path.Statement.{statement}
 use Rattle.paths.proofs.write_path.Tie as tie
 
@@ -22,7 +22,7 @@ Inv-loop rest₀ log at messages s used₀ next₀ rest used next =
     × (next ≤ messages)
     × (length rest ≡ length rest₀)
     × (next < messages → Arrives (rawAt log next))
-    × ((site : Site) (entries : List Entry) (path : List ℕ) (later : List (List ℕ)) → Walks log at messages s site entries path later → Under rest₀ rest used next site entries path later)
+    × ((site : Site) (entries : List Entry) (path : List ℕ) (later : List (List ℕ)) → Walks log at messages s site entries path later → UnderWay rest₀ rest used next site entries path later)
 
 abbrev μ-loop : tie.MeasureT-loop
 μ-loop rest₀ log at messages s used₀ next₀ rest used next = messages - next
@@ -46,7 +46,7 @@ as-long c = c .loop .inv .3 ∙ begun-length (past tie.Start (search) .args .res
 
 -- the path that the caller found room for
 under : (c : tie.At-loop Inv-loop μ-loop) → let a = past tie.Start (search) .args in let p = past tie.Start (search) .pre in
-    Under (begun (a .rest .now) (a .s) (radioOf (past tie.After-message-at (search) .message-at .result .to))) (c .loop .rest) (c .loop .used) (c .loop .next) (p .site) (p .entries) (p .path) (p .later)
+    UnderWay (path-begun (a .rest .now) (a .s) (radioOf (past tie.After-message-at (search) .message-at .result .to))) (c .loop .rest) (c .loop .used) (c .loop .next) (p .site) (p .entries) (p .path) (p .later)
 under c = let p = past tie.Start (search) .pre in c .loop .inv .5 (p .site) (p .entries) (p .path) (p .later) (p .walks)
 
 -- it has one radio more than are written

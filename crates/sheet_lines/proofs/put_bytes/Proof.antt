@@ -2,12 +2,12 @@
 use Prim.Native.Nat.{_+_, _-_, _≤_}
 use native.Mathlib.Omega.{arith}
 use lib.ListN.{length, getD, drop, length-drop, drop-of-length-le}
-use Rattle.sheet_lines.proofs.Writing.{Partly, partly-none, partly-room, partly-more, partly-all, partly-kept, stored, left-opened}
+use Rattle.sheet_lines.proofs.Writing.{PartWritten, partly-none, partly-room, partly-more, partly-all, partly-kept, stored, left-opened}
 use Rattle.sheet_lines.proofs.put_bytes.Statement.{statement}
 use Rattle.sheet_lines.proofs.put_bytes.Tie as tie
 
 abbrev Inv-loop : tie.InvT-loop
-Inv-loop out₀ at bytes size next₀ i₀ out next i = (i ≤ length bytes) × Partly out₀ out at bytes (drop i bytes) next
+Inv-loop out₀ at bytes size next₀ i₀ out next i = (i ≤ length bytes) × PartWritten out₀ out at bytes (drop i bytes) next
 
 abbrev μ-loop : tie.MeasureT-loop
 μ-loop out₀ at bytes size next₀ i₀ out next i = length bytes - i

@@ -7,7 +7,7 @@ use native.Mathlib.Omega.{arith}
 use lib.ListN.{length, getD, take, drop, drop-of-length-le}
 use lib.Seq.{getD-take, length-take-le}
 use Rattle.sheet_lines.specs.Lines.{cutLines}
-use Rattle.sheet_lines.proofs.Writing.{Partly, partly-none, partly-room, partly-more, partly-all, partly-kept, room-first, left-opened}
+use Rattle.sheet_lines.proofs.Writing.{PartWritten, partly-none, partly-room, partly-more, partly-all, partly-kept, room-first, left-opened}
 use Rattle.sheet_lines.proofs.Lines.{item-then}
 use Rattle.sheet_lines.proofs.put_cut.Statement.{statement}
 use Rattle.sheet_lines.proofs.put_cut.Tie as tie
@@ -17,7 +17,7 @@ abbrev linesFrom : ℕ → List ℕ → ℕ → List ℕ
 linesFrom i items count = cutLines (i + 1) (drop i (take count items))
 
 abbrev Inv-loop : tie.InvT-loop
-Inv-loop out₀ at items count next₀ i₀ out next i = (i ≤ count) × Partly out₀ out at (cutLines 1 (take count items)) (linesFrom i items count) next
+Inv-loop out₀ at items count next₀ i₀ out next i = (i ≤ count) × PartWritten out₀ out at (cutLines 1 (take count items)) (linesFrom i items count) next
 
 abbrev μ-loop : tie.MeasureT-loop
 μ-loop out₀ at items count next₀ i₀ out next i = count - i

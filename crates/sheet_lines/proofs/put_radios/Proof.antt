@@ -6,12 +6,12 @@ use native.Mathlib.Omega.{arith}
 use lib.ListN.{length, getD, drop, drop-of-length-le}
 use Rattle.captures.specs.Text.{decimal}
 use Rattle.sheet_lines.specs.Lines.{field, radioFields}
-use Rattle.sheet_lines.proofs.Writing.{Partly, partly-none, partly-room, partly-more, partly-all, partly-kept, room-first, left-opened}
+use Rattle.sheet_lines.proofs.Writing.{PartWritten, partly-none, partly-room, partly-more, partly-all, partly-kept, room-first, left-opened}
 use Rattle.sheet_lines.proofs.put_radios.Statement.{statement}
 use Rattle.sheet_lines.proofs.put_radios.Tie as tie
 
 abbrev Inv-loop : tie.InvT-loop
-Inv-loop out₀ at radios size next₀ i₀ out next i = (i ≤ length radios) × Partly out₀ out at (radioFields radios []) (radioFields (drop i radios) []) next
+Inv-loop out₀ at radios size next₀ i₀ out next i = (i ≤ length radios) × PartWritten out₀ out at (radioFields radios []) (radioFields (drop i radios) []) next
 
 abbrev μ-loop : tie.MeasureT-loop
 μ-loop out₀ at radios size next₀ i₀ out next i = length radios - i

@@ -1,16 +1,16 @@
--- `texts::first_wrong` meets its contract. The loop's invariant: what `Passed` says of the lines passed. Assumes nothing.
+-- `texts::first_wrong` meets its contract. The loop's invariant: what `PassedOver` says of the lines passed. Assumes nothing.
 use mathlib.Core.Path.{sym, _∙_}
 use mathlib.Core.Logic.{⊎-elim}
 use Prim.Native.Nat.{_+_, _-_}
 use native.Mathlib.Omega.{arith}
 use lib.ListN.{length}
 use borrow.Author.Tests.{not-true, not-false, eqb-true, eqb-false}
-use Rattle.texts.proofs.Lines.{Passed, passed-none, bounds, passed-more, wrong-here, wrong-none, wrong-open, wrong-first}
+use Rattle.texts.proofs.Lines.{PassedOver, passed-none, bounds, passed-more, wrong-here, wrong-none, wrong-open, wrong-first}
 use Rattle.texts.proofs.first_wrong.Statement.{statement}
 use Rattle.texts.proofs.first_wrong.Tie as tie
 
 abbrev Inv-loop : tie.InvT-loop
-Inv-loop text number₀ at₀ end₀ number at end = Passed text number at end
+Inv-loop text number₀ at₀ end₀ number at end = PassedOver text number at end
 
 abbrev μ-loop : tie.MeasureT-loop
 μ-loop text number₀ at₀ end₀ number at end = length text + 1 - at
