@@ -1,8 +1,8 @@
 /* Fogsignaller: surveys a map of radios for paths that share no radio between their ends.
  *
- * One call, proved to leave exactly what document 01 says, in every number and every byte, for
- * every input. It allocates nothing, keeps nothing between calls and calls back nobody, so calls
- * from several threads are fine as long as their buffers are different.
+ * One call, proved to leave exactly what the rules (docs/RULES.md) say, in every number and every
+ * byte, for every input. It allocates nothing, keeps nothing between calls and calls back nobody,
+ * so calls from several threads are fine as long as their buffers are different.
  *
  * `make library` builds target/libfogsignaller.a; `make install` puts it in place, with this header
  * and fogsignaller.pc for pkg-config. Link it with -lfogsignaller. Each call is a member of its own
@@ -39,7 +39,7 @@ enum fog_refusal {
 enum fog_kind {
     FOG_PDT = 1,   /* path discovery token */
     FOG_PDT_B = 2, /* the token comes back: no path that way */
-    FOG_PMT = 3,   /* path made: the step's mark is reversed */
+    FOG_PMT = 3,   /* path marker token: the step's mark is reversed */
     FOG_DONE = 4   /* walks each path once after the last round */
 };
 

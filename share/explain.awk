@@ -1,4 +1,4 @@
-# One plain sentence on a sheet: why a capture was refused, or what the cut of a short sheet means.
+# One plain sentence on a sheet: why a capture was refused, what the cut of a short sheet means, or what a full sheet promises.
 # Reads the capture's bytes as decimal numbers (od -An -v -tu1) and the sheet from the environment (FOG_SHEET).
 # It judges nothing itself: the number and the place are the sheet's.
 
@@ -16,6 +16,7 @@ BEGIN {
 
     names_of_head = "the word net,the capture number,the number of radios,S,T,k"
     names_of_link = "the word link,the first radio,the second radio"
+    split("one two three four five six seven eight", in_words, " ")
 
     lines = 1
     text[1] = ""
@@ -30,6 +31,7 @@ END {
     split(sheet[1], first, "\t")
     if (first[1] == "refused") print on_refusal(first[2], first[3])
     else if (first[3] == "short") print on_short(first[4])
+    else print on_full(first[4])
 }
 
 # A byte that no line should hold is kept as '?', with a note of what it was.
@@ -70,18 +72,26 @@ function on_refusal(number, place) {
 
 function on_shape(line,    wrong) {
     if (bytes == 0) return "the capture is empty; its first line must be net, capture number, n, S, T, k"
-    if (!is_ended[line]) return "it is the last line and no line feed ends it"
+    if (!is_ended[line]) return mended("it is the last line and no line feed ends it")
     if (line in strange) return on_strange(line)
-    if (text[line] == "") return "it is blank"
+    if (text[line] == "") return mended("it is blank")
     wrong = (line == 1) ? on_fields(line, "net", names_of_head) : on_fields(line, "link", names_of_link)
     return wrong == "" ? "it does not have the right shape" : wrong
 }
 
-function on_strange(line,    byte) {
+# What share/tidy.awk puts right.
+function mended(wrong) {
+    return wrong " (--tidy mends it)"
+}
+
+function on_strange(line,    byte, wrong) {
     byte = strange[line]
     if (line in has_zero) return "it holds a byte 0 (NUL); save the capture as plain text"
-    if (has_mark[line]) return "it starts with a byte-order mark; save the capture as plain text without one"
-    if (last_return[line] == length_of[line] && byte == 13) return "it ends in a carriage return (a Windows line end); a line feed alone must end it"
+    if (has_mark[line]) {
+        wrong = "it starts with a byte-order mark; save the capture as plain text without one"
+        return line == 1 ? mended(wrong) : wrong
+    }
+    if (last_return[line] == length_of[line] && byte == 13) return mended("it ends in a carriage return (a Windows line end); a line feed alone must end it")
     if (byte == 13) return "it holds a carriage return; a line feed alone must end each line"
     if (byte < 32 || byte == 127) return "it holds a control character (byte " byte "); only words, numbers and tabs may stand there"
     return "it holds a letter or sign that is not plain ASCII (byte " byte ")"
@@ -90,8 +100,10 @@ function on_strange(line,    byte) {
 function on_fields(line, word, names,    field, name, count, wanted, i, wrong) {
     count = split(text[line], field, "\t")
     wanted = split(names, name, ",")
+    if (field[1] != word || count != wanted) wrong = on_separators(line, word, count)
+    if (wrong != "") return wrong
     if (field[1] != word) return on_word(line, field[1], word)
-    if (count == wanted + 1 && field[count] == "") return "a tab stands at its end"
+    if (count > wanted && text[line] ~ /\t$/) return on_tail(field, count, wanted)
     if (count != wanted) return "it has " counted(count, "field") "; it must have " wanted ": " all_names(word, name, wanted)
     for (i = 2; i <= wanted; i++) {
         wrong = on_number(name[i], field[i])
@@ -100,9 +112,38 @@ function on_fields(line, word, names,    field, name, count, wanted, i, wrong) {
     return ""
 }
 
+# Other signs than tabs that part it into more fields, the first of them the right word.
+function on_separators(line, word, count,    parted, part, signs, wrong) {
+    parted = text[line]
+    gsub(/"/, "", parted)
+    gsub(/^[ ,;\t]+|[ ,;\t]+$/, "", parted)
+    if (split(parted, part, /[ ,;\t]+/) <= count || part[1] != word) return ""
+    signs = signs_in_words(parted)
+    wrong = (parted ~ /\t/ ? "some of its fields" : "its fields") " are parted by " signs "; one tab must part them"
+    # Beside a tab or a semicolon a comma may be part of a number, and stays.
+    return signs ~ /commas/ && parted ~ /[;\t]/ ? wrong : mended(wrong)
+}
+
+function signs_in_words(parted,    words) {
+    if (parted ~ /,/) words = words " and commas"
+    if (parted ~ /;/) words = words " and semicolons"
+    if (parted ~ / /) words = words " and spaces"
+    return substr(words, length(" and ") + 1)
+}
+
+# What stands past the last field, a tab at the end of the line.
+function on_tail(field, count, wanted,    i) {
+    for (i = wanted + 1; i <= count; i++)
+        if (field[i] != "") return "it has " counted(count, "field") ", the last of them empty; it must have " wanted
+    return mended(count == wanted + 1 ? "a tab stands at its end" : "tabs stand at its end")
+}
+
 function on_word(line, found, word) {
+    if (text[line] ~ /^[ \t]*#/) return mended("it begins with #; a capture has no remarks")
     if (found == "" && text[line] ~ /^\t/) return "it starts with a tab; it must start with the word " word
-    if (text[line] ~ /^[a-z]+ / && text[line] !~ /\t/) return "its fields are parted by spaces; one tab must part them"
+    if (found ~ /^"/) return mended("quotes stand around its first field; a capture has none")
+    # Without a tab the whole line is one field, and its first word tells more.
+    if (text[line] !~ /\t/ && match(found, /[^ ,;]+/)) found = substr(found, RSTART, RLENGTH)
     if (line > 1 && found == "net") return "it is a second net line; a capture has one, its first line"
     if (line == 1 && found == "link") return "it is a link line; the first line must be the net line"
     return "it starts with \"" shown(found) "\"; it must start with the word " word
@@ -110,6 +151,7 @@ function on_word(line, found, word) {
 
 function on_number(name, field) {
     if (field == "") return name " is missing: its field is empty"
+    if (field ~ /^ *[^ ]+ *$/ && field ~ / /) return mended(name " is \"" shown(field) "\"; no space may stand there")
     if (field ~ / /) return name " is \"" shown(field) "\"; no space may stand there"
     if (field ~ /^-[0-9]+$/) return name " is " shown(field) "; it must not be below 0"
     if (field !~ /^[0-9]+$/) return name " is \"" shown(field) "\"; it must be a number"
@@ -138,7 +180,8 @@ function link_in_words(line,    field) {
 
 function on_link(line, radios,    field, before) {
     split(text[line], field, "\t")
-    if (field[2] + 0 >= field[3] + 0) return "the first radio must be below the second"
+    if (field[2] + 0 > field[3] + 0) return mended("the first radio must be below the second")
+    if (field[2] + 0 == field[3] + 0) return "the first radio must be below the second"
     if (field[3] + 0 >= radios + 0) return "there is no radio " field[3] "; " numbered(radios)
     for (before = 2; before < line; before++)
         if (text[before] == text[line]) return "the same link stands in line " before
@@ -163,13 +206,24 @@ function counted(number, thing) {
     return number " " thing (number == 1 ? "" : "s")
 }
 
-# ---- short
+# ---- full and short
 
-function on_short(paths,    head, ways) {
+function ways_in_words(    head) {
     split(text[1], head, "\t")
-    ways = "from radio " head[4] " to radio " head[5]
-    if (paths == 0) return "short: there is no path at all " ways
-    return "short: " (paths == 1 ? "there is only " : "there are only ") paths " of the " head[6] " paths wanted; every path " ways " " cut_in_words()
+    return "from radio " head[4] " to radio " head[5]
+}
+
+# With k paths that share no radio, k - 1 radios can break k - 1 of them at most.
+function on_full(wanted,    all) {
+    if (wanted == 1) return "full: the one path wanted " ways_in_words() " exists"
+    all = wanted == 2 ? "both" : "all " in_words[wanted]
+    return "full: " all " paths wanted " ways_in_words() " exist; any " in_words[wanted - 1] " of the other radios may fail, and a path is left"
+}
+
+function on_short(paths,    head) {
+    split(text[1], head, "\t")
+    if (paths == 0) return "short: there is no path at all " ways_in_words()
+    return "short: only " in_words[paths] " of the " in_words[head[6]] " paths wanted " (paths == 1 ? "exists" : "exist") "; every path " ways_in_words() " " cut_in_words()
 }
 
 # The direct link stands for itself; all other paths hold a radio of the cut.

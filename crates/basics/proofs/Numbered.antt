@@ -1,15 +1,13 @@
 -- The law of numbered conditions holds for every list that is put together of tests. Assumes nothing.
 use mathlib.Core.Path.{_≡_, refl, sym, _∙_}
 use mathlib.Core.Bool.{Bool, true, false, cond, false≢true}
-use mathlib.Core.List.{List, [], _∷_, _++_, map}
+use mathlib.Core.List.{[], _∷_, _++_}
 use mathlib.Core.Logic.{_⊎_, inl, inr}
 use Prim.Native.Nat.{ℕ}
 use lib.Dec.{eqb}
-use borrow.Author.Tests.{eqb-true, eqb-false, eq-eqb}
-use Rattle.basics.specs.Lists.{among}
+use borrow.Author.Tests.{eqb-true, eqb-false}
 use Rattle.basics.specs.Numbered.{Conditions, Gives, NoneHolds, Lawful}
-use Rattle.basics.proofs.Bools.{Tells, clash}
-use Rattle.basics.proofs.Lists.{among-neither}
+use Rattle.basics.proofs.Bools.{Tells}
 
 -- ---- one list after another
 
@@ -39,12 +37,6 @@ gives-parts (first ∷ rest) next c (inr later) = go (gives-parts rest next c (l
     go : Gives rest c ⊎ (NoneHolds rest × Gives next c) → Gives (first ∷ rest) c ⊎ (NoneHolds (first ∷ rest) × Gives next c)
     go (inl g) = inl (inr (later .0, g))
     go (inr p) = inr ((later .0, p .0), p .1)
-
--- a number that stands nowhere in a list is not given by it
-pub not-given : (list : Conditions) (c : ℕ) → among c (map (λ (condition : ℕ × Type 0). condition .0) list) ≡ false → Gives list c → ⊥
-not-given [] c absent g = g
-not-given (first ∷ rest) c absent (inl own) = among-neither c (first .0) _ absent .0 (own .0)
-not-given (first ∷ rest) c absent (inr later) = not-given rest c (among-neither c (first .0) _ absent .1) (later .1)
 
 -- ---- the law, for answers of any kind that have a number
 

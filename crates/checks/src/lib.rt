@@ -216,8 +216,8 @@ fn steps(rows: &[u64; 64], total: usize, n: usize, s: usize, t: usize) -> usize
 
 // What the checks of a map answer: the verdict on refusals 1 to 4, and for an accepted map twice the number of its links.
 pub struct MapAnswer {
-    verdict: Verdict,
-    total: usize,
+    pub verdict: Verdict,
+    pub total: usize,
 }
 
 // Refusals 1 to 4. An accepted map finds its links in the rows; after a refusal they hold what the checks left there.

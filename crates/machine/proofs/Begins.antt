@@ -17,17 +17,10 @@ use Rattle.machine.specs.declared.Stage.{Stage}
 use Rattle.machine.specs.declared.Stage.the-variants.{Searching, Declining, Granting, Won, Carrying}
 use Rattle.machine.specs.declared.Machine.{Machine}
 use Rattle.machine.specs.declared.Stepped.{Stepped}
-use Rattle.machine.specs.View.{marksOf, enteredOf, notesIn, isWon, stateOf}
+use Rattle.machine.specs.View.{beginningAt, marksOf, enteredOf, notesIn, isWon, stateOf}
 use Rattle.machine.specs.Sane.{Sane}
 use Rattle.machine.specs.Step.{Made, Ready, Follows, Steps, Continues, Rounds}
 use Rattle.machine.proofs.Stages.{in-stage, sane-in}
-
-pub won-stage : (stage : Stage) → isWon stage ≡ true → stage ≡ Won
-won-stage Searching e = absurd (false≢true e)
-won-stage Declining e = absurd (false≢true e)
-won-stage Granting e = absurd (false≢true e)
-won-stage Won e = refl
-won-stage Carrying e = absurd (false≢true e)
 
 module _ (task : Task) (machine : Machine) (links rows entered halves : List ℕ) where
   -- the stage is another, or the last round is won
@@ -35,7 +28,7 @@ module _ (task : Task) (machine : Machine) (links rows entered halves : List ℕ
   nothing-begins full = record { continues = λ plan place ready. record { from = place; ready = ready; same = refl }; full = full; still = λ e. refl }
 
   abbrev Begun : Machine
-  Begun = record { stage = Searching; half = outHalf (task .s); other = outHalf (task .s); left = getD rows (outHalf (task .s)) 0; depth = 0; round = machine .round + 1; found = machine .found }
+  Begun = beginningAt (outHalf (task .s)) rows (machine .round + 1) (machine .found)
 
   abbrev Noted : Site → ℕ → Entered → Notes
   Noted site round now = record { round = round; found = machine .found; marks = marksOf site rows; entered = now }

@@ -25,14 +25,11 @@ use Rattle.machine.specs.declared.Stage.{Stage}
 use Rattle.machine.specs.declared.Stage.the-variants.{Searching, Declining, Granting, Won, Carrying}
 use Rattle.machine.specs.declared.Machine.{Machine}
 use Rattle.machine.specs.declared.Stepped.{Stepped}
-use Rattle.machine.specs.View.{marksOf, enteredOf, tried, waitingOf, notesIn, stateIn, stackOf, stateOf}
+use Rattle.machine.specs.View.{movedTo, marksOf, enteredOf, tried, waitingOf, notesIn, stateIn, stackOf, stateOf}
 use Rattle.machine.specs.Step.{Fits, TopUntried, Ready, Agrees, Follows, Received}
 use Rattle.machine.proofs.Stages.{tried-across, in-stage, sane-in, untried-in, Top, on-top, asks-next, asks-no-more}
 
--- the machine at another stage, and a message sent
-abbrev pub movedTo : Machine → Stage → ℕ → ℕ → ℕ → ℕ → Machine
-movedTo machine stage half other left depth = record { stage = stage; half = half; other = other; left = left; depth = depth; round = machine .round; found = machine .found }
-
+-- a message is sent
 abbrev pub sentBy : Message → Machine → Stepped
 sentBy message machine = record { answer = Sent message; machine = machine }
 
@@ -61,11 +58,11 @@ module _ (site : Site) (machine next : Machine) (y left : ℕ) (rows entered ent
   unfolding gets
   entered-receives t e rest m = rw m (record { place = tried site (machine .half) y; untried = rest; state = rw (ne-eqb y (inHalf (site .T)) t, e) refl })
 
-  pub new-receives : (halves′ : List ℕ) → (y ≡ inHalf (site .T) → ⊥) → enteredOf entered y ≡ false → enteredOf entered′ ≡ (λ x. eqb x y || enteredOf entered x)
+  pub new-receives : (halves′ : List ℕ) (other : ℕ) → (y ≡ inHalf (site .T) → ⊥) → enteredOf entered y ≡ false → enteredOf entered′ ≡ (λ x. eqb x y || enteredOf entered x)
       → waitingOf site halves′ (machine .depth + 1) y ≡ Above → Open site (marksOf site rows) rows
-      → next ≡ movedTo machine Searching y y (getD rows y 0) (machine .depth + 1) → Received site machine y rows entered halves next entered′ halves′
+      → next ≡ movedTo machine Searching y other (getD rows y 0) (machine .depth + 1) → Received site machine y rows entered halves next entered′ halves′
   unfolding gets
-  new-receives halves′ t e f w walks m =
+  new-receives halves′ other t e f w walks m =
       rw m
       (record {
         place = 0;

@@ -14,6 +14,22 @@ use Rattle.machine.specs.declared.Stage.{Stage}
 use Rattle.machine.specs.declared.Stage.the-variants.{Searching, Declining, Granting, Won, Carrying}
 use Rattle.machine.specs.declared.Machine.{Machine}
 
+-- ---- the machine after a step
+
+-- at another stage, with the same rounds and paths
+abbrev pub movedTo : Machine → Stage → ℕ → ℕ → ℕ → ℕ → Machine
+movedTo machine stage half other left depth = record { stage = stage; half = half; other = other; left = left; depth = depth; round = machine .round; found = machine .found }
+
+-- the half on top has this left
+abbrev pub withLeft : Machine → ℕ → Machine
+withLeft machine left = movedTo machine (machine .stage) (machine .half) (machine .other) left (machine .depth)
+
+-- a round begins: S's out half searches
+abbrev pub beginningAt : ℕ → List ℕ → ℕ → ℕ → Machine
+beginningAt source rows round found = record { stage = Searching; half = source; other = source; left = getD rows source 0; depth = 0; round = round; found = found }
+
+-- ---- the state that it stands for
+
 -- the place after the one at which half h has asked half x
 abbrev pub tried : Site → ℕ → ℕ → ℕ
 tried site h x = suc (placeOf site h (radioOf x))

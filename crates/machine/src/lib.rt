@@ -6,13 +6,12 @@ ghost use Prim.Native.Nat.{ℕ, suc, _+_, _*_, _≤_, _<_};
 ghost use lib.Dec.{eqb};
 ghost use Rattle.site.specs.Limits.{mostRadios};
 ghost use Rattle.site.specs.Map.{Site};
-ghost use Rattle.tokens.specs.Rules.{Plan, waits, passOn, release};
+ghost use Rattle.tokens.specs.Rules.{Plan, message, waits, passOn, release};
 ghost use Rattle.openings.specs.Rows.{Open, Untried};
-ghost use Rattle.machine.specs.View.{isWon, marksOf, enteredOf, tried, waitingOf, notesIn, stateOf, nextOf};
+ghost use Rattle.machine.specs.View.{isWon, marksOf, enteredOf, tried, waitingOf, notesIn, stateOf, movedTo, withLeft, beginningAt};
 ghost use Rattle.machine.specs.Step.{Fits, Made, TopUntried, Agrees, Ready, Steps, Received, Rounds};
 use tokens::Answer;
 use tokens::Kind;
-use tokens::Message;
 
 // The numbers of a survey: radios, the two ends, and the paths wanted.
 pub struct Task {
@@ -58,15 +57,8 @@ fn wide(byte: u8) -> usize
 }
 
 // The machine at another stage.
-fn moved(
-    machine: Machine,
-    stage: Stage,
-    half: usize,
-    other: usize,
-    left: u64,
-    depth: usize,
-) -> Machine
-    ensures { λ r. ⌜ r ≡ record { stage = stage; half = half; other = other; left = left; depth = depth; round = machine .round; found = machine .found } ⌝ }
+fn moved(m: Machine, stage: Stage, half: usize, other: usize, left: u64, depth: usize) -> Machine
+    ensures { λ r. ⌜ r ≡ movedTo m stage half other left depth ⌝ }
 {
     Machine {
         stage,
@@ -74,14 +66,35 @@ fn moved(
         other,
         left,
         depth,
-        round: machine.round,
-        found: machine.found,
+        round: m.round,
+        found: m.found,
     }
+}
+
+// This half is on top and searches, with so many below it.
+fn searching(machine: Machine, half: usize, left: u64, depth: usize) -> Machine
+    ensures { λ r. ⌜ r ≡ movedTo machine Stage.Searching half (machine .other) left depth ⌝ }
+{
+    moved(machine, Stage::Searching, half, machine.other, left, depth)
+}
+
+// Half y owes a reply to the half on top, which has this left.
+fn owing(machine: Machine, stage: Stage, y: usize, left: u64) -> Machine
+    ensures { λ r. ⌜ r ≡ movedTo machine stage (machine .half) y left (machine .depth) ⌝ }
+{
+    moved(machine, stage, machine.half, y, left, machine.depth)
+}
+
+// DONE, which S sent to radio v, has come to this half.
+fn carrying(machine: Machine, v: usize, half: usize) -> Machine
+    ensures { λ r. ⌜ r ≡ movedTo machine Stage.Carrying half v (machine .left) 0 ⌝ }
+{
+    moved(machine, Stage::Carrying, half, v, machine.left, 0)
 }
 
 // The same machine, whose half on top has this left.
 pub fn with_left(machine: Machine, left: u64) -> Machine
-    ensures { λ r. ⌜ r ≡ record { stage = machine .stage; half = machine .half; other = machine .other; left = left; depth = machine .depth; round = machine .round; found = machine .found } ⌝ }
+    ensures { λ r. ⌜ r ≡ withLeft machine left ⌝ }
 {
     let stage = machine.stage;
     moved(
@@ -94,12 +107,28 @@ pub fn with_left(machine: Machine, left: u64) -> Machine
     )
 }
 
+// A round begins: S's out half searches.
+pub fn beginning(source: usize, rows: &[u64; 128], round: usize, found: usize) -> Machine
+    requires { ⌜ source < 2 * mostRadios ⌝ }
+    ensures { λ r. ⌜ r ≡ beginningAt source (now (rows .entry)) round found ⌝ }
+{
+    Machine {
+        stage: Stage::Searching,
+        half: source,
+        other: source,
+        left: rows[source],
+        depth: 0,
+        round,
+        found,
+    }
+}
+
 // A message is sent, and the machine stands there once it is delivered.
 fn sent(kind: Kind, from: usize, to: usize, machine: Machine) -> Stepped
-    ensures { λ r. ⌜ r ≡ record { answer = Answer.Sent (record { kind = kind; from = from; to = to }); machine = machine } ⌝ }
+    ensures { λ r. ⌜ r ≡ record { answer = Answer.Sent (message kind from to); machine = machine } ⌝ }
 {
     Stepped {
-        answer: Answer::Sent(Message { kind, from, to }),
+        answer: Answer::Sent(tokens::telling(kind, from, to)),
         machine,
     }
 }
@@ -121,12 +150,7 @@ fn pass_on(n: usize, machine: Machine, h: usize, v: usize, w: usize) -> Stepped
     ensures { λ r. ⌜ ((site : Site) (place : ℕ) (rows entered halves : List ℕ) → site .n ≡ n → TopUntried site place machine rows → Agrees site (passOn site h v w (notesIn site machine rows entered)) r rows entered halves) ⌝ }
 {
     if w < n {
-        return sent(
-            Kind::Done,
-            h,
-            2 * w,
-            moved(machine, Stage::Carrying, 2 * w, v, machine.left, 0),
-        );
+        return sent(Kind::Done, h, 2 * w, carrying(machine, v, 2 * w));
     }
     Stepped {
         answer: Answer::End,
@@ -158,12 +182,7 @@ fn carries(task: Task, machine: Machine, links: &[u64; 64], rows: &[u64; 128]) -
         let w = openings::next_marked(task.n, task.s, links, rows, h / 2, 0);
         return pass_on(task.n, machine, h, v, w);
     }
-    sent(
-        Kind::Done,
-        h,
-        h + 1,
-        moved(machine, Stage::Carrying, h + 1, v, machine.left, 0),
-    )
+    sent(Kind::Done, h, h + 1, carrying(machine, v, h + 1))
 }
 
 // ---- rules 3 to 6, one function to a stage
@@ -183,28 +202,14 @@ fn receives(
 {
     if y == 2 * task.t {
         halves::enter(entered, y);
-        return moved(
-            machine,
-            Stage::Granting,
-            machine.half,
-            y,
-            left,
-            machine.depth,
-        );
+        return owing(machine, Stage::Granting, y, left);
     }
     if halves::is_entered(entered, y) {
-        return moved(
-            machine,
-            Stage::Declining,
-            machine.half,
-            y,
-            left,
-            machine.depth,
-        );
+        return owing(machine, Stage::Declining, y, left);
     }
     halves::enter(entered, y);
     push(halves, machine.depth, machine.half);
-    moved(machine, Stage::Searching, y, y, rows[y], machine.depth + 1)
+    searching(machine, y, rows[y], machine.depth + 1)
 }
 
 // The half on top has nothing left to try: it replies PDT_B to the half that asked it, or is S, whose round has failed.
@@ -225,12 +230,7 @@ fn gives_up(
     let below = machine.depth - 1;
     let asker = wide(halves[below]);
     let left = openings::after(rows[asker], asker, h / 2);
-    sent(
-        Kind::PdtB,
-        h,
-        asker,
-        moved(machine, Stage::Searching, asker, h, left, below),
-    )
+    sent(Kind::PdtB, h, asker, searching(machine, asker, left, below))
 }
 
 // The half on top asks the next that it can.
@@ -266,19 +266,8 @@ fn declines(machine: Machine) -> Stepped
     requires { ⌜ machine .stage ≡ Stage.Declining ⌝ }
     ensures { λ r. ⌜ ((task : Task) (links rows entered halves : List ℕ) → Steps task machine links rows entered halves r rows entered halves) ⌝ }
 {
-    sent(
-        Kind::PdtB,
-        machine.other,
-        machine.half,
-        moved(
-            machine,
-            Stage::Searching,
-            machine.half,
-            machine.other,
-            machine.left,
-            machine.depth,
-        ),
-    )
+    let on_top = searching(machine, machine.half, machine.left, machine.depth);
+    sent(Kind::PdtB, machine.other, machine.half, on_top)
 }
 
 // The half that was asked replies PMT to the half on top, which reverses their step's mark and owes PMT in its turn, or is S,
@@ -304,28 +293,11 @@ fn grants(machine: Machine, rows: &mut [u64; 128], halves: &[u8; 128]) -> Steppe
     }
     let below = machine.depth - 1;
     let asker = wide(halves[below]);
-    sent(
-        Kind::Pmt,
-        y,
-        h,
-        moved(machine, Stage::Granting, asker, h, machine.left, below),
-    )
+    let on_top = moved(machine, Stage::Granting, asker, h, machine.left, below);
+    sent(Kind::Pmt, y, h, on_top)
 }
 
 // ---- rule 1
-
-// Is a round won?
-fn is_won(stage: Stage) -> bool
-    ensures { λ r. ⌜ r ≡ isWon stage ⌝ }
-{
-    match stage {
-        Stage::Searching => false,
-        Stage::Declining => false,
-        Stage::Granting => false,
-        Stage::Won => true,
-        Stage::Carrying => false,
-    }
-}
 
 // Where a round is won and fewer than k paths are found, the next one begins. At every other stage nothing happens.
 fn next_round(task: Task, machine: Machine, rows: &[u64; 128], entered: &mut [u8; 128]) -> Machine
@@ -333,23 +305,15 @@ fn next_round(task: Task, machine: Machine, rows: &[u64; 128], entered: &mut [u8
     ensures { λ r. ⌜ ((links halves : List ℕ) → Rounds task machine links (now (rows .entry)) (now (entered .entry)) halves r (now (entered .exit))) ⌝ }
 {
     let stage = machine.stage;
-    if !is_won(stage) {
+    let Stage::Won = stage else {
         return machine;
-    }
+    };
     if machine.found >= task.k {
         return machine;
     }
     let source = 2 * task.s + 1;
     halves::enter_only(entered, source);
-    Machine {
-        stage: Stage::Searching,
-        half: source,
-        other: source,
-        left: rows[source],
-        depth: 0,
-        round: machine.round + 1,
-        found: machine.found,
-    }
+    beginning(source, rows, machine.round + 1, machine.found)
 }
 
 // One inner step: the message that the rules send next, or the end of the run, and where the machine stands after it.

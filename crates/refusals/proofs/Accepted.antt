@@ -17,9 +17,10 @@ use Rattle.site.specs.Map.{linked, links, A}
 use Rattle.site.proofs.Formula.{Even}
 use Rattle.site.proofs.Valid.{Valid}
 use Rattle.log.specs.Bytes.{messageBytes}
-use Rattle.refusals.specs.Refusals.{Call, logNeeds, pathsNeed, verdict, number}
+use Rattle.refusals.specs.Refusals.{Call, finding, logNeeds, pathsNeed, verdict, number}
 use Rattle.refusals.specs.Conditions.{Fault, mirror, mapConditions, pairConditions, roomConditions}
-use Rattle.refusals.proofs.Exactly.{call-exact}
+use Rattle.refusals.specs.declared.Finding.the-variants.{Sound}
+use Rattle.refusals.proofs.Exactly.{finds-nothing, call-exact}
 
 -- ---- a table without faults
 
@@ -51,6 +52,7 @@ pub record SoundMap (table : List ℕ) (n : ℕ) : Type 0 where
   pub few-radios : n ≤ mostRadios
   pub long : length table ≡ n * n
   pub no-fault : (place : ℕ) → place < n * n → Fault table n place → ⊥
+  pub sound : finding table n ≡ Sound
   pub even : Even table n
   pub few-links : links table n ≤ mostLinks
 
@@ -59,7 +61,7 @@ sound-map table n (radios, (length-differs, (faults, (many-links, end)))) =
     let some : n < 2 → ⊥ = λ p. radios (inl p) in
     let few : mostRadios < n → ⊥ = λ p. radios (inr p) in
     let no-fault : (place : ℕ) → place < n * n → Fault table n place → ⊥ = λ place p fault. faults (place, p, fault) in
-    record { two-radios = omega arith; few-radios = omega arith; long = go (ℕ-discrete _ _); no-fault = no-fault; even = even-links table n no-fault; few-links = omega arith }
+    record { two-radios = omega arith; few-radios = omega arith; long = go (ℕ-discrete _ _); no-fault = no-fault; sound = finds-nothing table n no-fault; even = even-links table n no-fault; few-links = omega arith }
   where
     go : Dec (length table ≡ n * n) → length table ≡ n * n
     go (yes e) = e

@@ -77,6 +77,15 @@ sound-table table n sound place p fault = go (ltb (firstBad table n) (n * n)) (s
     go true e told = let z : _≡_ {A = ℕ} 0 1 = cc in omega arith
     go false e told = false≢true e
 
+-- and the check finds nothing in a table without faults
+pub finds-nothing : (table : List ℕ) (n : ℕ) → ((place : ℕ) → place < n * n → Fault table n place → ⊥) → finding table n ≡ Sound
+unfolding finding
+finds-nothing table n none = go (ltb (firstBad table n) (n * n)) refl
+  where
+    go : (b : Bool) → ltb (firstBad table n) (n * n) ≡ b → cond b (Bad (firstBad table n)) Sound ≡ Sound
+    go true e = let first = first-fault table n (ltb-true _ _ e) in absurd (none _ (first .within) (first .fault))
+    go false e = refl
+
 -- ---- each part of the list, and the whole
 
 -- a verdict follows the law of the conditions, and for 3 its place is a bad cell and no earlier cell is bad

@@ -30,21 +30,14 @@ use Rattle.machine.specs.declared.Task.{Task}
 use Rattle.machine.specs.declared.Stage.{Stage}
 use Rattle.machine.specs.declared.Stage.the-variants.{Searching, Declining, Granting, Won, Carrying}
 use Rattle.machine.specs.declared.Machine.{Machine}
-use Rattle.machine.specs.View.{enteredOf, marksOf, stateOf}
+use Rattle.machine.specs.View.{movedTo, withLeft, enteredOf, marksOf, stateOf}
 use Rattle.machine.specs.Step.{WhileSeeking, Ready, Steps}
 use Rattle.machine.proofs.Stages.{sane-in}
-use Rattle.machine.proofs.Replies.{movedTo, sentBy, entered-receives, untried-once-asked, search-top, search-untried, searching-asks, declining-replies}
+use Rattle.machine.proofs.Replies.{sentBy, entered-receives, untried-once-asked, search-top, search-untried, searching-asks, declining-replies}
 use Rattle.running.specs.Progress.{Beginning, Begun, Partly, Onward}
-use Rattle.running.specs.Run.{isSearching, withLeft, Asks}
+use Rattle.running.specs.Run.{Asks}
 use Rattle.running.proofs.Progress.{partly-length, partly-more, notes-in}
 use Rattle.running.proofs.Sane.{sane-rounds}
-
-pub searching-stage : (stage : Stage) → isSearching stage ≡ true → stage ≡ Searching
-searching-stage Searching e = refl
-searching-stage Declining e = absurd (false≢true e)
-searching-stage Granting e = absurd (false≢true e)
-searching-stage Won e = absurd (false≢true e)
-searching-stage Carrying e = absurd (false≢true e)
 
 -- ---- the set that is left counts by its members alone
 

@@ -17,7 +17,7 @@ use Rattle.openings.proofs.Order.{untried-whole}
 use Rattle.machine.specs.declared.Task.{Task}
 use Rattle.machine.specs.declared.Stage.the-variants.{Searching}
 use Rattle.machine.specs.declared.Machine.{Machine}
-use Rattle.machine.specs.View.{marksOf, enteredOf, stateOf}
+use Rattle.machine.specs.View.{beginningAt, marksOf, enteredOf, stateOf}
 use Rattle.machine.specs.Sane.{Sane}
 use Rattle.machine.specs.Step.{Ready}
 use Rattle.running.specs.declared.Ran.{Ran}
@@ -28,7 +28,7 @@ use Rattle.running.proofs.Sane.{sane-start}
 module _ (task : Task) (links rows entered halves : List ℕ)
     (filled : (site : Site) → site .n ≡ task .n → site .S ≡ task .s → site .T ≡ task .t → RowsOfLinks (site .table) (site .n) links → Open site unmarked rows) (only-S : enteredOf entered ≡ (λ x. eqb x (2 * task .s + 1))) where
   abbrev Begin : Machine
-  Begin = record { stage = Searching; half = 2 * task .s + 1; other = 2 * task .s + 1; left = getD rows (2 * task .s + 1) 0; depth = 0; round = 1; found = 0 }
+  Begin = beginningAt (2 * task .s + 1) rows 1 0
 
   abbrev Noted : ℕ → Marks → Entered → Notes
   Noted found marks now = record { round = 1; found = found; marks = marks; entered = now }
@@ -52,8 +52,8 @@ module _ (task : Task) (links rows entered halves : List ℕ)
     on-steps : (a b : ℕ) → plan .marks a b ≡ true → step (plan .site) a b ≡ true
     on-steps a b e = absurd (false≢true (sym (ap (λ (marks : Marks). marks a b) (fresh .none-marked)) ∙ e))
 
-    pub begin-ready : Ready plan 0 task Begin links rows entered halves
-    begin-ready =
+    ready : Ready plan 0 task Begin links rows entered halves
+    ready =
         let marked = subst (λ (marks : Marks). Open (plan .site) marks rows) no-marks walks in
         record {
           made = fresh .made;
@@ -62,7 +62,12 @@ module _ (task : Task) (links rows entered halves : List ℕ)
           sane = subst (Sane plan) at-start (sane-start plan (omega (arith, fresh .made .radios, fresh .made .source, fresh .made .fits .source)) on-steps (omega (arith, fresh .none-kept, fresh .wanted)));
         }
 
-    -- so the run from there is the whole run
-    pub begin-leaves : (budget : ℕ) (ran : Ran) (after before bytes : List ℕ) → Leaves (runFrom plan budget (stateOf (plan .site) 0 Begin rows entered halves)) ran after before bytes
-        → Leaves (runFrom plan budget (start plan)) ran after before bytes
-    begin-leaves budget ran after before bytes leaves = subst⁻¹ (λ (state : State). Leaves (runFrom plan budget state) ran after before bytes) at-start leaves
+    module _ (begin : Machine) (begins : begin ≡ Begin) where
+      pub begin-ready : Ready plan 0 task begin links rows entered halves
+      begin-ready = subst⁻¹ (λ (machine : Machine). Ready plan 0 task machine links rows entered halves) begins ready
+
+      -- so the run from there is the whole run
+      pub begin-leaves : (budget : ℕ) (ran : Ran) (after before bytes : List ℕ) → Leaves (runFrom plan budget (stateOf (plan .site) 0 begin rows entered halves)) ran after before bytes
+          → Leaves (runFrom plan budget (start plan)) ran after before bytes
+      begin-leaves budget ran after before bytes leaves =
+          subst⁻¹ (λ (state : State). Leaves (runFrom plan budget state) ran after before bytes) (at-start ∙ ap (λ (machine : Machine). stateOf (plan .site) 0 machine rows entered halves) (sym begins)) leaves

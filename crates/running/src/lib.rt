@@ -2,21 +2,19 @@
 ghost use mathlib.Core.Path.{_≡_};
 ghost use mathlib.Core.List.{List};
 ghost use Prim.Native.Nat.{ℕ};
-ghost use Rattle.tokens.specs.Rules.{Plan, start, message};
-ghost use Rattle.tokens.specs.declared.Kind.the-variants.{Pdt, PdtB};
+ghost use Rattle.tokens.specs.Rules.{Plan, start};
 ghost use Rattle.tokens.specs.Run.{runFrom};
 ghost use Rattle.log.specs.Bytes.{RoomFor};
 ghost use Rattle.machine.specs.declared.Task.{Task};
-ghost use Rattle.machine.specs.View.{stateOf};
+ghost use Rattle.machine.specs.View.{stateOf, withLeft};
 ghost use Rattle.machine.specs.Step.{Ready};
 ghost use Rattle.running.specs.Progress.{Onward};
-ghost use Rattle.running.specs.Run.{isSearching, withLeft, Asks, Leaves, Fresh, Runs};
+ghost use Rattle.running.specs.Run.{Asks, Leaves, Fresh, Runs};
 use machine::Machine;
 use machine::Stage;
 use machine::Task;
 use tokens::Answer;
 use tokens::Kind;
-use tokens::Message;
 
 // What a run came to: the rounds started, the paths found, and the messages sent.
 pub struct Ran {
@@ -33,51 +31,6 @@ struct Vain {
 
 // ---- PDTs in vain
 
-// A PDT between two halves.
-fn pdt(from: usize, to: usize) -> Message
-    ensures { λ r. ⌜ r ≡ message Pdt from to ⌝ }
-{
-    Message {
-        kind: Kind::Pdt,
-        from,
-        to,
-    }
-}
-
-// A PDT_B between two halves.
-fn pdt_b(from: usize, to: usize) -> Message
-    ensures { λ r. ⌜ r ≡ message PdtB from to ⌝ }
-{
-    Message {
-        kind: Kind::PdtB,
-        from,
-        to,
-    }
-}
-
-// Does a half search?
-fn is_searching(stage: Stage) -> bool
-    ensures { λ r. ⌜ r ≡ isSearching stage ⌝ }
-{
-    match stage {
-        Stage::Searching => true,
-        Stage::Declining => false,
-        Stage::Granting => false,
-        Stage::Won => false,
-        Stage::Carrying => false,
-    }
-}
-
-// Nothing is sent.
-fn nothing(machine: Machine, sent: usize) -> Vain
-    ensures { λ r. ⌜ r ≡ record { left = machine .left; sent = sent } ⌝ }
-{
-    Vain {
-        left: machine.left,
-        sent,
-    }
-}
-
 // An out half on top asks those next in its order that were entered before: each PDT gets its PDT_B at once. These are inner
 // steps of the rules, two at a time, sent without going through the stages. Room for all of them is asked for once, before.
 fn asks_in_vain(
@@ -91,15 +44,18 @@ fn asks_in_vain(
     ensures { λ r. ⌜ ((task : Task) → Onward task budget (now (entered .entry)) (now (log .entry)) machine sent (now (log .exit)) (withLeft machine (r .left)) (r .sent)) ⌝ }
 {
     let stage = machine.stage;
-    if !is_searching(stage) {
-        return nothing(machine, sent);
-    }
+    let Stage::Searching = stage else {
+        return Vain {
+            left: machine.left,
+            sent,
+        };
+    };
     let h = machine.half;
-    if h % 2 == 0 {
-        return nothing(machine, sent);
-    }
-    if sent + site::MOST_HALVES >= budget {
-        return nothing(machine, sent);
+    if h % 2 == 0 || sent + site::MOST_HALVES >= budget {
+        return Vain {
+            left: machine.left,
+            sent,
+        };
     }
     let mut others = radios::without(machine.left, h / 2);
     let own = radios::and_not(machine.left, others);
@@ -109,8 +65,13 @@ fn asks_in_vain(
         if !halves::is_entered(entered, 2 * v) {
             break;
         }
-        log::put(log, at, pdt(h, 2 * v), machine.round);
-        log::put(log, at + 1, pdt_b(2 * v, h), machine.round);
+        log::put(log, at, tokens::telling(Kind::Pdt, h, 2 * v), machine.round);
+        log::put(
+            log,
+            at + 1,
+            tokens::telling(Kind::PdtB, 2 * v, h),
+            machine.round,
+        );
         others = radios::without_first(others, v);
         at += 2;
     }
@@ -177,15 +138,7 @@ pub fn run(
     openings::fill(task.n, task.s, task.t, links, &mut rows);
     let source = 2 * task.s + 1;
     halves::enter_only(entered, source);
-    let begin = Machine {
-        stage: Stage::Searching,
-        half: source,
-        other: source,
-        left: rows[source],
-        depth: 0,
-        round: 1,
-        found: 0,
-    };
+    let begin = machine::beginning(source, &rows, 1, 0);
     run_on(
         task,
         begin,

@@ -20,7 +20,7 @@ use Rattle.sheet_lines.proofs.Lines.{sheet-in-parts}
 use Rattle.sheet_lines.proofs.Room.{Small, Moderate, refused-fits, sheet-fits, small-take, small-paths}
 use Rattle.text_survey.specs.declared.Surveyed.{Surveyed}
 use Rattle.text_survey.specs.Survey.{pathsLent, cutLent, TextSurvey}
-use Rattle.text_survey.specs.Tells.{Bounded, Tells}
+use Rattle.text_survey.specs.Delivered.{Bounded, Delivered}
 use Rattle.sheet_text.specs.Sheet.{sheetOf, sheetRoom}
 
 -- what is written from the start, and zeros after it
@@ -29,7 +29,7 @@ rest-cleared {before} {after} {bytes} {next} w =
     let left : length after - next ≡ length before - length bytes = omega (arith, kept w) in
     ap₂ (λ (front : List ℕ) (m : ℕ). front ++ replicate m 0) (used w) left
 
-module _ {survey : TextSurvey} {found : Surveyed} {paths cut : List ℕ} (tells : Tells survey found paths cut) where
+module _ {survey : TextSurvey} {found : Surveyed} {paths cut : List ℕ} (delivered : Delivered survey found paths cut) where
   abbrev o : Outcome
   o = found .outcome
 
@@ -38,10 +38,10 @@ module _ {survey : TextSurvey} {found : Surveyed} {paths cut : List ℕ} (tells 
   own = record { numbers = found; paths = survey .paths; cut = survey .cut }
 
   same : own ≡ survey
-  same = ap (λ (n : Surveyed). record { numbers = n; paths = survey .paths; cut = survey .cut }) (tells .numbers-are)
+  same = ap (λ (n : Surveyed). record { numbers = n; paths = survey .paths; cut = survey .cut }) (delivered .numbers-are)
 
   bounded : Bounded own
-  bounded = subst Bounded (sym same) (tells .bounded)
+  bounded = subst Bounded (sym same) (delivered .bounded)
 
   -- ---- a refusal
 
@@ -57,11 +57,11 @@ module _ {survey : TextSurvey} {found : Surveyed} {paths cut : List ℕ} (tells 
   pub listed : Holds paths (o .paths) (survey .paths)
   listed =
       subst (λ (n : ℕ). Holds paths n (survey .paths)) (bounded .number)
-      (holds-front paths (survey .paths) (replicate (pathsLent - length (pathBytes (survey .paths))) 0) (tells .paths-are))
+      (holds-front paths (survey .paths) (replicate (pathsLent - length (pathBytes (survey .paths))) 0) (delivered .paths-are))
 
   -- where a path is lacking there is an item for each that was found
   items-are : (o .paths ≡ found .wanted → ⊥) → take (o .paths) cut ≡ survey .cut
-  items-are lacking = ap (take (o .paths)) (tells .cut-is) ∙ take-at (survey .cut) (replicate (cutLent - length (survey .cut)) 0) (o .paths) (bounded .items lacking)
+  items-are lacking = ap (take (o .paths)) (delivered .cut-is) ∙ take-at (survey .cut) (replicate (cutLent - length (survey .cut)) 0) (o .paths) (bounded .items lacking)
 
   module _ (small : Small paths × Small cut) where
     small-items : Dec (o .paths ≡ found .wanted) → Small (survey .cut)
@@ -133,7 +133,7 @@ module _ {survey : TextSurvey} {found : Surveyed} {paths cut : List ℕ} (tells 
           module _ (lacking : o .paths ≡ found .wanted → ⊥) where
             pub items-room : (o .paths ≤ length cut) × (after-paths + length (cutLines 1 (take (o .paths) cut)) ≤ length out₂)
             items-room = (
-              omega (arith, ap length (tells .cut-is), length-append (survey .cut) (replicate (cutLent - length (survey .cut)) 0), bounded .items lacking),
+              omega (arith, ap length (delivered .cut-is), length-append (survey .cut) (replicate (cutLent - length (survey .cut)) 0), bounded .items lacking),
               rw (items-are lacking) (room-then listing last room-after),
             )
 

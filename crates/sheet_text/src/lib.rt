@@ -5,7 +5,7 @@ ghost use lib.ListN.{length};
 ghost use Rattle.buffers.specs.Zeros.{zerosAfter};
 ghost use Rattle.sheet_lines.specs.Written.{Written};
 ghost use Rattle.text_survey.specs.Survey.{TextSurvey};
-ghost use Rattle.text_survey.specs.Tells.{Tells};
+ghost use Rattle.text_survey.specs.Delivered.{Delivered};
 ghost use Rattle.sheet_text.specs.Sheet.{sheetOf, sheetRoom, sheetIn};
 use text_survey::Surveyed;
 
@@ -14,8 +14,8 @@ pub const SHEET_ROOM: usize = 512;
 
 // The sheet of a survey, at the start of the buffer: its refusal, or the report, the paths and the cut. A full run has no cut.
 fn put_sheet(found: Surveyed, paths: &[u8], cut: &[u8], out: &mut [u8]) -> usize
-    requires { ⌜ ((survey : TextSurvey) × Tells survey found (now paths) (now cut)) × (sheetRoom ≤ length (now out)) ⌝ }
-    ensures { λ r. ⌜ ((survey : TextSurvey) → Tells survey found (now (paths .entry)) (now (cut .entry)) → Written (now (out .entry)) (now (out .exit)) 0 (sheetOf survey) r) ⌝ }
+    requires { ⌜ ((survey : TextSurvey) × Delivered survey found (now paths) (now cut)) × (sheetRoom ≤ length (now out)) ⌝ }
+    ensures { λ r. ⌜ ((survey : TextSurvey) → Delivered survey found (now (paths .entry)) (now (cut .entry)) → Written (now (out .entry)) (now (out .exit)) 0 (sheetOf survey) r) ⌝ }
 {
     let outcome = found.outcome;
     if outcome.refusal != 0 {

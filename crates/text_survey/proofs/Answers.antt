@@ -27,7 +27,7 @@ use Rattle.text_survey.specs.declared.TextFault.{TextFault}
 use Rattle.text_survey.specs.declared.TextFault.the-variants.{TooLong, WrongShape, WrongRadios, BadLine}
 use Rattle.text_survey.specs.declared.FirstLine.{FirstLine}
 use Rattle.text_survey.specs.Survey.{logLent, pathsLent, cutLent, textNumber, textPlace, refusedFor, callFor, surveyFor}
-use Rattle.text_survey.specs.Tells.{Lent, Bounded, Tells}
+use Rattle.text_survey.specs.Delivered.{Lent, Bounded, Delivered}
 
 -- ---- a refused text
 
@@ -40,7 +40,7 @@ text-number-small (BadLine line) = omega arith
 -- both lists were cleared
 pub told-refused : (fault : TextFault) {number place : ℕ} {paths₀ cut₀ paths cut : List ℕ} → Lent paths₀ cut₀ → textPlace fault ≤ mostNumber → number ≡ textNumber fault → place ≡ textPlace fault
     → paths ≡ take 0 paths₀ ++ replicate (length paths₀ - 0) 0 → cut ≡ take 0 cut₀ ++ replicate (length cut₀ - 0) 0
-    → Tells (refusedFor fault) (record { capture = 0; wanted = 0; outcome = record { refusal = number; place = place; paths = 0; rounds = 0; messages = 0 } }) paths cut
+    → Delivered (refusedFor fault) (record { capture = 0; wanted = 0; outcome = record { refusal = number; place = place; paths = 0; rounds = 0; messages = 0 } }) paths cut
 unfolding pathBytes
 told-refused fault {paths₀ = paths₀} {cut₀ = cut₀} lent small is at no-paths no-cut =
     record {
@@ -161,7 +161,7 @@ module _ {first : FirstLine} {table : List ℕ} {found : Outcome} {log paths cut
             items = λ z. sym (nothing .paths);
           })
 
-  surveyed : Tells (surveyFor first table) (record { capture = first .capture; wanted = first .k; outcome = found }) paths cut
+  surveyed : Delivered (surveyFor first table) (record { capture = first .capture; wanted = first .k; outcome = found }) paths cut
   unfolding surveyFor pathsLeft cutLeft
   surveyed =
       record {
@@ -174,5 +174,5 @@ module _ {first : FirstLine} {table : List ℕ} {found : Outcome} {log paths cut
 -- with buffers of the lengths that are asked for
 pub told-surveyed : (first : FirstLine) {table : List ℕ} {l p c : ℕ} {found : Outcome} {log paths cut : List ℕ}
     → Promise (callOf (first .n) table (first .s) (first .t) (first .k) l p c) found log paths cut → l ≡ logLent → p ≡ pathsLent → c ≡ cutLent → first .capture ≤ mostNumber → first .n ≤ mostRadios
-    → Tells (surveyFor first table) (record { capture = first .capture; wanted = first .k; outcome = found }) paths cut
+    → Delivered (surveyFor first table) (record { capture = first .capture; wanted = first .k; outcome = found }) paths cut
 told-surveyed first promise a b c capture few = surveyed {first = first} (rw (a, b, c) at promise) capture few

@@ -19,23 +19,23 @@ use Rattle.text_survey.specs.declared.TextFault.the-variants.{TooLong, W
 use Rattle.text_survey.specs.declared.FirstLine.{FirstLine}
 use Rattle.text_survey.specs.declared.Surveyed.{Surveyed}
 use Rattle.text_survey.specs.Survey.{mostBytes, refusedFor, surveyFor, ofLines, ofHead, surveyOf}
-use Rattle.text_survey.specs.Tells.{Tells}
+use Rattle.text_survey.specs.Delivered.{Delivered}
 
 module _ {numbers : Surveyed} {paths cut : List ℕ} where
   -- 10
-  pub told-long : (text : List ℕ) → mostBytes < length text → Tells (refusedFor TooLong) numbers paths cut → Tells (surveyOf text) numbers paths cut
+  pub told-long : (text : List ℕ) → mostBytes < length text → Delivered (refusedFor TooLong) numbers paths cut → Delivered (surveyOf text) numbers paths cut
   unfolding surveyOf
   told-long text long t = rw (lt-ltb mostBytes (length text) long) t
 
   module _ (text : List ℕ) (short : length text ≤ mostBytes) {wrong : ℕ} (is : wrong ≡ wrongLine 1 (pieces lineFeed text)) where
     -- 9
-    pub told-wrong : (wrong ≡ 0 → ⊥) → Tells (refusedFor (WrongShape wrong)) numbers paths cut → Tells (surveyOf text) numbers paths cut
+    pub told-wrong : (wrong ≡ 0 → ⊥) → Delivered (refusedFor (WrongShape wrong)) numbers paths cut → Delivered (surveyOf text) numbers paths cut
     unfolding surveyOf
     told-wrong some t = rw (le-ltb mostBytes (length text) short, ← is, ne-eqb wrong 0 some) t
 
     -- the first line, and those after it
     pub told-right : {end : ℕ} {head said : Head} → wrong ≡ 0 → end ≡ endOf text 0 lineFeed → head ≡ headOf (take end text) → head ≡ said
-        → Tells (ofHead said (linesFrom text (end + 1))) numbers paths cut → Tells (surveyOf text) numbers paths cut
+        → Delivered (ofHead said (linesFrom text (end + 1))) numbers paths cut → Delivered (surveyOf text) numbers paths cut
     unfolding surveyOf
     told-right {end} none ends reads says t =
         let begun : Begins text end = begins text end ends (sym is ∙ none) in
@@ -43,19 +43,19 @@ module _ {numbers : Surveyed} {paths cut : List ℕ} where
 
   -- 1
   module _ (capture n S T k : ℕ) (lines : List Line) where
-    pub told-few : n < 2 → Tells (refusedFor WrongRadios) numbers paths cut → Tells (ofHead (Net capture n S T k) lines) numbers paths cut
+    pub told-few : n < 2 → Delivered (refusedFor WrongRadios) numbers paths cut → Delivered (ofHead (Net capture n S T k) lines) numbers paths cut
     told-few few t = rw (lt-ltb n 2 few) t
 
-    pub told-many : mostRadios < n → Tells (refusedFor WrongRadios) numbers paths cut → Tells (ofHead (Net capture n S T k) lines) numbers paths cut
+    pub told-many : mostRadios < n → Delivered (refusedFor WrongRadios) numbers paths cut → Delivered (ofHead (Net capture n S T k) lines) numbers paths cut
     told-many many t = rw (lt-ltb mostRadios n many, or-true) t
 
-    pub told-between : 2 ≤ n → n ≤ mostRadios → Tells (ofLines (record { capture = capture; n = n; s = S; t = T; k = k }) lines) numbers paths cut → Tells (ofHead (Net capture n S T k) lines) numbers paths cut
+    pub told-between : 2 ≤ n → n ≤ mostRadios → Delivered (ofLines (record { capture = capture; n = n; s = S; t = T; k = k }) lines) numbers paths cut → Delivered (ofHead (Net capture n S T k) lines) numbers paths cut
     told-between two most t = rw (le-ltb n 2 two, le-ltb mostRadios n most) t
 
   -- 11, or the map
   module _ (first : FirstLine) {text : List ℕ} {from : ℕ} {table : List ℕ} {bad : ℕ} (read : LinesRead text from (first .n) table bad) where
-    pub told-bad : (bad ≡ 0 → ⊥) → Tells (refusedFor (BadLine bad)) numbers paths cut → Tells (ofLines first (linesFrom text from)) numbers paths cut
+    pub told-bad : (bad ≡ 0 → ⊥) → Delivered (refusedFor (BadLine bad)) numbers paths cut → Delivered (ofLines first (linesFrom text from)) numbers paths cut
     told-bad some t = rw (← read .told, ne-eqb bad 0 some) t
 
-    pub told-good : bad ≡ 0 → Tells (surveyFor first table) numbers paths cut → Tells (ofLines first (linesFrom text from)) numbers paths cut
+    pub told-good : bad ≡ 0 → Delivered (surveyFor first table) numbers paths cut → Delivered (ofLines first (linesFrom text from)) numbers paths cut
     told-good none t = rw (← read .told, eq-eqb bad 0 none, ← read .filled none) t

@@ -1,2 +1,2 @@
 pub mod Survey
-pub mod Tells
+pub mod Delivered

@@ -39,7 +39,7 @@ cutLent = 8
 
 -- ---- the refusals of a text
 
--- their numbers; 1 is the survey's own
+-- their numbers; that of 1 is the survey's own
 abbrev pub textNumber : TextFault → ℕ
 textNumber TooLong = 10
 textNumber (WrongShape line) = 9
@@ -60,7 +60,7 @@ pub record TextSurvey : Type 0 where
   pub paths : List (List ℕ)
   pub cut : List ℕ
 
--- a refused text has nothing but a refusal
+-- a text that is refused before the survey has nothing but a refusal
 abbrev pub refusedFor : TextFault → TextSurvey
 refusedFor fault =
     record {

@@ -6,9 +6,10 @@ ghost use Rattle.site.specs.Limits.{mostRadios};
 ghost use Rattle.captures.specs.Text.{mostNumber};
 ghost use Rattle.texts.specs.Table.{linesFrom};
 ghost use Rattle.text_survey.specs.Survey.{logLent, pathsLent, cutLent, textNumber, textPlace, refusedFor, ofLines, surveyOf};
-ghost use Rattle.text_survey.specs.Tells.{Lent, Readable, Tells};
+ghost use Rattle.text_survey.specs.Delivered.{Lent, Readable, Delivered};
 use captures::Head;
 use outcome::Outcome;
+use refusals::Verdict;
 
 // A text of more bytes is refused.
 pub const MOST_BYTES: usize = 8192;
@@ -43,8 +44,8 @@ pub struct FirstLine {
     pub k: usize,
 }
 
-// The numbers of a capture: its own number, the paths wanted, and what the survey of its map says. A refused text has a
-// refusal and a place, and 0 for all else.
+// The numbers of a capture: its own number and the paths wanted, as its first line says them, and what the survey says of its
+// map. A text that is refused before the survey has a refusal and a place, and 0 for all else.
 pub struct Surveyed {
     pub capture: usize,
     pub wanted: usize,
@@ -94,7 +95,7 @@ fn number_of(fault: TextFault) -> usize
     match fault {
         TextFault::TooLong => 10,
         TextFault::WrongShape(_) => 9,
-        TextFault::WrongRadios => 1,
+        TextFault::WrongRadios => refusals::number_of(Verdict::Radios),
         TextFault::BadLine(_) => 11,
     }
 }
@@ -114,7 +115,7 @@ fn place_of(fault: TextFault) -> usize
 // A refused text leaves zeros in both lists, whatever they held.
 fn refused(fault: TextFault, paths: &mut [u8], cut: &mut [u8]) -> Surveyed
     requires { ⌜ Lent (now paths) (now cut) × (textPlace fault ≤ mostNumber) ⌝ }
-    ensures { λ r. ⌜ Tells (refusedFor fault) r (now (paths .exit)) (now (cut .exit)) ⌝ }
+    ensures { λ r. ⌜ Delivered (refusedFor fault) r (now (paths .exit)) (now (cut .exit)) ⌝ }
 {
     buffers::clear_from(paths, 0);
     buffers::clear_from(cut, 0);
@@ -142,7 +143,7 @@ fn survey_lines(
     cut: &mut [u8],
 ) -> Surveyed
     requires { ⌜ Readable (now text) from first × (length (now table) ≡ first .n * first .n) × Lent (now paths) (now cut) ⌝ }
-    ensures { λ r. ⌜ Tells (ofLines first (linesFrom (now (text .entry)) from)) r (now (paths .exit)) (now (cut .exit)) ⌝ }
+    ensures { λ r. ⌜ Delivered (ofLines first (linesFrom (now (text .entry)) from)) r (now (paths .exit)) (now (cut .exit)) ⌝ }
 {
     let bad = texts::fill_table(text, from, first.n, table);
     if bad != 0 {
@@ -170,7 +171,7 @@ fn survey_lines(
 // survey says. The path list and the cut list are left in the two buffers, with zeros after them.
 pub fn survey_text(text: &[u8], paths: &mut [u8], cut: &mut [u8]) -> Surveyed
     requires { ⌜ Lent (now paths) (now cut) ⌝ }
-    ensures { λ r. ⌜ Tells (surveyOf (now (text .entry))) r (now (paths .exit)) (now (cut .exit)) ⌝ }
+    ensures { λ r. ⌜ Delivered (surveyOf (now (text .entry))) r (now (paths .exit)) (now (cut .exit)) ⌝ }
 {
     if text.len() > MOST_BYTES {
         return refused(TextFault::TooLong, paths, cut);

@@ -1,4 +1,6 @@
 // The messages of the token rules, and what one inner step of the machine answers.
+ghost use mathlib.Core.Path.{_≡_};
+ghost use Rattle.tokens.specs.Rules.{message};
 
 // The four kinds of message.
 pub enum Kind {
@@ -19,4 +21,11 @@ pub struct Message {
 pub enum Answer {
     Sent(Message),
     End,
+}
+
+// A message of this kind from one half to another.
+pub fn telling(kind: Kind, from: usize, to: usize) -> Message
+    ensures { λ r. ⌜ r ≡ message kind from to ⌝ }
+{
+    Message { kind, from, to }
 }

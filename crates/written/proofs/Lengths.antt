@@ -18,7 +18,7 @@ use Rattle.captures.specs.Text.{mostNumber}
 use Rattle.sheet_lines.proofs.Numbers.{digits-below-100, digits-below-100000}
 use Rattle.text_survey.specs.Survey.{mostBytes}
 use Rattle.written.specs.Writing.{netLine, linkLines, captureText, isLinkAt, linksFrom, linksIn}
-use Rattle.written.specs.Reading.{SoundMap}
+use Rattle.written.specs.Reading.{WritableMap}
 use Rattle.basics.proofs.Places.{row-of, column-of}
 use Rattle.written.proofs.MapBack.{links-below}
 
@@ -92,7 +92,7 @@ lines-length (pair ∷ links) below =
 
 -- ---- the text of a map
 
-module _ (capture n S T k : ℕ) (table : List ℕ) (map : SoundMap n table) (a : capture ≤ mostNumber) (b : S ≤ mostNumber) (c : T ≤ mostNumber) (d : k ≤ mostNumber) where
+module _ (capture n S T k : ℕ) (table : List ℕ) (map : WritableMap n table) (a : capture ≤ mostNumber) (b : S ≤ mostNumber) (c : T ≤ mostNumber) (d : k ≤ mostNumber) where
   text-length : length (captureText capture n S T k (linksIn n table)) ≤ 34 + 11 * links table n
   text-length =
       omega (

@@ -20,7 +20,7 @@ use Rattle.captures.specs.Capture.{came, atFault, faultLine, tableOf}
 use Rattle.captures.specs.declared.Line.{Line}
 use Rattle.captures.specs.declared.Line.the-variants.{Link}
 use Rattle.written.specs.Writing.{saying, isLinkAt, linksFrom, linksIn}
-use Rattle.written.specs.Reading.{SoundMap, Fills}
+use Rattle.written.specs.Reading.{WritableMap, Fills}
 use Rattle.basics.proofs.Places.{row-of, column-of, in-table, row-below, column-below}
 use Rattle.written.proofs.Tables.{isCell, inCells, cell-of, table-of-long, table-of-cell}
 
@@ -100,7 +100,7 @@ module _ (n : ℕ) (table : List ℕ) (some : 0 < n) where
 
 -- ---- the cells of a sound map
 
-module _ (n : ℕ) (table : List ℕ) (map : SoundMap n table) where
+module _ (n : ℕ) (table : List ℕ) (map : WritableMap n table) where
   no-fault : (place : ℕ) → place < n * n → Fault table n place → ⊥
   no-fault = sound-table table n (map .sound)
 

@@ -16,12 +16,12 @@ use Rattle.text_survey.specs.declared.FirstLine.{FirstLine}
 use Rattle.text_survey.specs.Survey.{mostBytes, surveyFor, ofHead}
 use Rattle.sheet_text.specs.Sheet.{sheetOf, sheet}
 use Rattle.written.specs.Writing.{saying, captureText, linksIn}
-use Rattle.written.specs.Reading.{firstLine, otherLines, Sayable, ReadBack, SoundMap, GoodText, SameLines}
+use Rattle.written.specs.Reading.{firstLine, otherLines, Sayable, ReadBack, WritableMap, GoodText, SameLines}
 use Rattle.written.proofs.AnyOrder.{sheet-read, same-lines-same-sheet}
 use Rattle.written.proofs.ReadBack.{read-back}
 use Rattle.written.proofs.MapBack.{map-read-back, links-below}
 
-module _ (capture n S T k : ℕ) (table : List ℕ) (map : SoundMap n table) (a : capture ≤ mostNumber) (b : S ≤ mostNumber) (c : T ≤ mostNumber) (d : k ≤ mostNumber) where
+module _ (capture n S T k : ℕ) (table : List ℕ) (map : WritableMap n table) (a : capture ≤ mostNumber) (b : S ≤ mostNumber) (c : T ≤ mostNumber) (d : k ≤ mostNumber) where
   read : ReadBack (captureText capture n S T k (linksIn n table)) capture n S T k (linksIn n table)
   read =
       read-back capture n S T k (linksIn n table) a (omega (arith, map .few-radios)) b c d

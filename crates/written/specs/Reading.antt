@@ -33,7 +33,7 @@ pub record ReadBack (text : List ℕ) (capture n S T k : ℕ) (links : List (ℕ
   pub others : linesOf (otherLines text) ≡ saying links
 
 -- a map that no refusal 1 to 3 is against
-pub record SoundMap (n : ℕ) (table : List ℕ) : Type 0 where
+pub record WritableMap (n : ℕ) (table : List ℕ) : Type 0 where
   pub two-radios : 2 ≤ n
   pub few-radios : n ≤ mostRadios
   pub long : length table ≡ n * n

@@ -52,7 +52,7 @@ add-sent c = let f = facts (past tie.Start (search)) in omega (arith, f .fits .f
 
 returns-3 : tie.Need-returns-3
 returns-3 c = λ entered halves plan place ready.
-    let there = past tie.After-moved (search) .moved in
+    let there = past tie.After-carrying (search) .carrying in
     carrying-inside ready (past tie.Start (search) .pre .0) (past tie.Else1 (search) .if1 .left) (past tie.Else2 (search) .if2 .left) (c .sent .result) (there .result) _ (there .ensures) (c .sent .ensures)
 
 pub carries-spec : {M : Type 1} → statement M

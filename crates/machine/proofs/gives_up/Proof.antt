@@ -43,7 +43,7 @@ returns-2 c =
     let at = start .args in
     let asker = past tie.After-wide (search) .wide in
     let left = past tie.After-after (search) .after in
-    let there = past tie.After-moved (search) .moved in
+    let there = past tie.After-searching (search) .searching in
     let top = search-top ready (start .pre .0) in
     searching-replies ready (start .pre .0) (start .pre .1) (c .sent .result) (at .machine .depth - 1) (asker .result) (left .result) _ (there .result) (omega arith) (asker .ensures)
     (left .ensures (plan .site) (marksOf (plan .site) (at .rows .now)) (omega (arith, top .half)) (ready .walks (asker .result)))

@@ -16,8 +16,8 @@ facts c = grants (c .pre .1 .5) (c .pre .0)
 turn-requires : tie.Need-turn-requires
 turn-requires c κs = let f = facts (past tie.Start (search)) in omega arith
 
-add-t13 : tie.Need-add-t13
-add-t13 c = let start = past tie.Start (search) in omega (arith, few-found (start .pre .1 .5) (start .pre .0), start .pre .1 .5 .made .fits .few-wanted)
+add-t14 : tie.Need-add-t14
+add-t14 c = let start = past tie.Start (search) in omega (arith, few-found (start .pre .1 .5) (start .pre .0), start .pre .1 .5 .made .fits .few-wanted)
 
 returns : tie.Need-returns
 returns c = λ task links entered plan place ready.
@@ -41,4 +41,4 @@ returns-2 c = λ task links entered plan place ready.
     (c .sent2 .result) (at .machine .depth - 1) (asker .result) (there .result) (omega arith) (asker .ensures) (there .ensures) (c .sent2 .ensures)
 
 pub grants-spec : {M : Type 1} → statement M
-grants-spec = tie.close (tie.spec turn-requires add-t13 (λ c κs. tt) returns (λ c. omega arith) element-copy-out-wide (λ c κs. tt) (λ c κs. tt) (λ c κs. tt) returns-2)
+grants-spec = tie.close (tie.spec turn-requires add-t14 (λ c κs. tt) returns (λ c. omega arith) element-copy-out-wide (λ c κs. tt) (λ c κs. tt) (λ c κs. tt) returns-2)

@@ -15,14 +15,14 @@ returns c =
     let at = past tie.Start (search) .args in
     let enter = past tie.After-enter (search) .enter in
     λ site sink walks untried.
-    T-receives site (at .machine) (c .moved .result) (at .y) (at .left) (at .rows .now) (at .entered .now) (enter .last .0) (at .halves .now) (past tie.Then1 (search) .if1 .taken ∙ ap inHalf (sym sink)) (enter .ensures) (c .moved .ensures)
+    T-receives site (at .machine) (c .owing .result) (at .y) (at .left) (at .rows .now) (at .entered .now) (enter .last .0) (at .halves .now) (past tie.Then1 (search) .if1 .taken ∙ ap inHalf (sym sink)) (enter .ensures) (c .owing .ensures)
 
 returns-2 : tie.Need-returns-2
 returns-2 c =
     let at = past tie.Start (search) .args in
     λ site sink walks untried.
-    entered-receives site (at .machine) (c .moved2 .result) (at .y) (at .left) (at .rows .now) (at .entered .now) (at .entered .now) (at .halves .now) (λ e. past tie.Else1 (search) .if1 .left (e ∙ ap inHalf sink))
-    (sym (past tie.After-is-entered (search) .is-entered .ensures) ∙ past tie.Then2 (search) .if2 .taken) untried (c .moved2 .ensures)
+    entered-receives site (at .machine) (c .owing2 .result) (at .y) (at .left) (at .rows .now) (at .entered .now) (at .entered .now) (at .halves .now) (λ e. past tie.Else1 (search) .if1 .left (e ∙ ap inHalf sink))
+    (sym (past tie.After-is-entered (search) .is-entered .ensures) ∙ past tie.Then2 (search) .if2 .taken) untried (c .owing2 .ensures)
 
 returns-3 : tie.Need-returns-3
 returns-3 c =
@@ -30,8 +30,8 @@ returns-3 c =
     let enter = past tie.After-enter2 (search) .enter2 in
     let push = past tie.After-push (search) .push in
     λ site sink walks untried.
-    new-receives site (at .machine) (c .moved3 .result) (at .y) (at .left) (at .rows .now) (at .entered .now) (enter .last .0) (at .halves .now) (push .last .0) (λ e. past tie.Else1 (search) .if1 .left (e ∙ ap inHalf sink))
-    (sym (past tie.After-is-entered (search) .is-entered .ensures) ∙ past tie.Else2 (search) .if2 .left) (enter .ensures) (push .ensures site (at .y)) walks (c .moved3 .ensures)
+    new-receives site (at .machine) (c .searching .result) (at .y) (at .left) (at .rows .now) (at .entered .now) (enter .last .0) (at .halves .now) (push .last .0) _ (λ e. past tie.Else1 (search) .if1 .left (e ∙ ap inHalf sink))
+    (sym (past tie.After-is-entered (search) .is-entered .ensures) ∙ past tie.Else2 (search) .if2 .left) (enter .ensures) (push .ensures site (at .y)) walks (c .searching .ensures)
 
 pub receives-spec : {M : Type 1} → statement M
 receives-spec =

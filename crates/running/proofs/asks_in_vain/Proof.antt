@@ -3,8 +3,9 @@ use mathlib.Core.Path.{_≡_, refl, sym, ap, _∙_}
 use mathlib.Core.Logic.{_⊎_, ⊎-elim}
 use Prim.Native.Nat.{ℕ, suc, _+_, _-_, _*_, _/_, _^_, _≤_, _<_}
 use native.Mathlib.Omega.{arith}
+use borrow.Author.Needs.{needs}
 use lib.Bits.{bitOr}
-use borrow.Author.Tests.{eqb-false, not-true, not-false}
+use borrow.Author.Tests.{leb-false, eqb-false, not-true, not-false}
 use Rattle.radios.proofs.Laws.{member-or}
 use Rattle.radios.proofs.Lowest.{first-below}
 use Rattle.site.specs.Limits.{mostRadios}
@@ -13,8 +14,8 @@ use Rattle.tokens.specs.declared.Kind.the-variants.{Pdt, PdtB}
 use Rattle.machine.specs.declared.Task.{Task}
 use Rattle.machine.specs.declared.Stage.the-variants.{Searching}
 use Rattle.running.specs.Progress.{Onward}
-use Rattle.running.specs.Run.{withLeft}
-use Rattle.running.proofs.InVain.{searching-stage, onward-none, onward-same, Asking, asking-more, own-not-other, own-alone, both-parts, writable}
+use Rattle.machine.specs.View.{withLeft}
+use Rattle.running.proofs.InVain.{onward-none, onward-same, Asking, asking-more, own-not-other, own-alone, both-parts, writable}
 use Rattle.running.proofs.asks_in_vain.Statement.{statement}
 use Rattle.running.proofs.asks_in_vain.Tie as tie
 
@@ -35,22 +36,19 @@ stays : (c : tie.Start Inv-loop μ-loop) → Stays c
 stays c = λ task. let at = c .args in onward-none task (at .budget) (at .entered .now) (at .log .now) (at .machine) (at .sent) (at .machine .left) (λ j. refl) (c .pre .within)
 
 returns : tie.Need-returns Inv-loop μ-loop
-returns c = rw (c .nothing .ensures) (stays (search))
+returns c = stays (search)
 
 returns-2 : tie.Need-returns-2 Inv-loop μ-loop
-returns-2 c = rw (c .nothing2 .ensures) (stays (search))
-
-returns-3 : tie.Need-returns-3 Inv-loop μ-loop
-returns-3 c = rw (c .nothing3 .ensures) (stays (search))
+returns-2 c = stays (search)
 
 -- what is known once the half on top asks: it searches, it is an out half, and there is room
-searching : (c : tie.Else1 Inv-loop μ-loop) → let at = past tie.Start (search) .args in at .machine .stage ≡ Searching
-searching c = searching-stage _ (sym (past tie.After-is-searching (search) .is-searching .ensures) ∙ not-false _ (c .if1 .left))
+searching : (c : tie.After-enum-told Inv-loop μ-loop) → past tie.Start (search) .args .machine .stage ≡ Searching
+searching c = c .enum-told .given .1
 
-out : (c : tie.Else2 Inv-loop μ-loop) → let at = past tie.Start (search) .args in at .machine .half ≡ outHalf (at .machine .half / 2)
-out c = omega (arith, c .if2 .left)
+out : (c : tie.Else1 Inv-loop μ-loop) → let at = past tie.Start (search) .args in at .machine .half ≡ outHalf (at .machine .half / 2)
+out c = omega (arith, c .if1 .left)
 
-half-below : (c : tie.Else2 Inv-loop μ-loop) → past tie.Start (search) .args .machine .half < 2 * mostRadios
+half-below : (c : tie.After-enum-told Inv-loop μ-loop) → past tie.Start (search) .args .machine .half < 2 * mostRadios
 half-below c = past tie.Start (search) .pre .half (searching (search))
 
 -- `search` enters 128 records at most, so the way back from the loop is cut into hops
@@ -58,7 +56,7 @@ abbrev loop-of : tie.After-first Inv-loop μ-loop → tie.At-loop Inv-loop μ-lo
 loop-of c = search
 
 long : (c : tie.At-loop Inv-loop μ-loop) → let at = past tie.Start (search) .args in at .sent + 2 * mostRadios < at .budget
-long c = past tie.Else3 (search) .if3 .left
+long c = leb-false _ _ (past tie.Else2 (search) .if2 .left)
 
 loop-holds : tie.Need-loop-holds Inv-loop μ-loop
 loop-holds c =
@@ -76,7 +74,7 @@ loop-holds c =
 
 -- the radio that is asked
 asked-below : (c : tie.After-first Inv-loop μ-loop) → c .first .result < 64
-asked-below c = first-below 64 _ _ (past tie.At-loop (search) .loop .inv .a-set) (eqb-false _ _ (sym (past tie.After-is-empty (search) .is-empty .ensures) ∙ not-true _ (past tie.Then4 (search) .if4 .taken))) (c .first .ensures)
+asked-below c = first-below 64 _ _ (past tie.At-loop (search) .loop .inv .a-set) (eqb-false _ _ (sym (past tie.After-is-empty (search) .is-empty .ensures) ∙ not-true _ (past tie.Then3 (search) .if3 .taken))) (c .first .ensures)
 
 -- there is room for it and its reply
 asked-room : (c : tie.After-first Inv-loop μ-loop) → loop-of c .loop .at + 2 < past tie.Start (search) .args .budget
@@ -90,12 +88,12 @@ put-requires c κs =
     let start = past tie.Start (search) in
     let l = past tie.At-loop (search) .loop in
     let fits = asked-below (search) in
-    writable _ _ _ Pdt _ _ _ (past tie.After-pdt (search) .pdt .ensures) (omega (arith, start .pre .room, l .inv .same-length, l .inv .most, past tie.Else3 (search) .if3 .left)) (start .pre .round) (omega (arith, half-below (search))) (omega (arith, fits))
+    writable _ _ _ Pdt _ _ _ (past tie.After-telling (search) .telling .ensures) (omega (arith, start .pre .room, l .inv .same-length, l .inv .most, long (past tie.At-loop (search)))) (start .pre .round) (omega (arith, half-below (search))) (omega (arith, fits))
 
 put-requires-2 : tie.Need-put-requires-2 Inv-loop μ-loop
 put-requires-2 c κs =
     let put = past tie.After-put (search) .put .ensures .same-length in
-    let back = past tie.After-pdt-b (search) .pdt-b .ensures in
+    let back = past tie.After-telling2 (search) .telling2 .ensures in
     let first = past tie.After-first (search) in
     let fits = asked-below first in
     let here = loop-of first in
@@ -110,13 +108,13 @@ loop-again c =
     let first = past tie.After-first (search) in
     let others = past tie.After-without (search) .without .ensures in
     let own = past tie.After-and-not (search) .and-not .ensures in
-    let came = sym (past tie.After-is-entered (search) .is-entered .ensures) ∙ not-false _ (past tie.Else5 (search) .if5 .left) in
-    asking-more (at .budget) (at .entered .now) (at .log .now) (at .machine) (at .sent) (at .machine .half / 2) _ (searching (search)) (out (search)) (own-alone _ _ _ _ others own) (past tie.Else3 (search) .if3 .left)
+    let came = sym (past tie.After-is-entered (search) .is-entered .ensures) ∙ not-false _ (past tie.Else4 (search) .if4 .left) in
+    asking-more (at .budget) (at .entered .now) (at .log .now) (at .machine) (at .sent) (at .machine .half / 2) _ (searching (search)) (out (search)) (own-alone _ _ _ _ others own) (long (loop-of first))
     (l .log) _ _ _ _ (l .others) (l .at) (first .first .result) _ (l .inv) (first .first .ensures) (asked-below first) came (omega arith) (c .without-first .ensures)
-    (past tie.After-pdt (search) .pdt .ensures) (past tie.After-put (search) .put .ensures) (past tie.After-pdt-b (search) .pdt-b .ensures) (past tie.After-put2 (search) .put2 .ensures)
+    (past tie.After-telling (search) .telling .ensures) (past tie.After-put (search) .put .ensures) (past tie.After-telling2 (search) .telling2 .ensures) (past tie.After-put2 (search) .put2 .ensures)
 
-returns-4 : tie.Need-returns-4 Inv-loop μ-loop
-returns-4 c = λ task.
+returns-3 : tie.Need-returns-3 Inv-loop μ-loop
+returns-3 c = λ task.
     let l = past tie.At-loop (search) .loop in
     onward-same task _ _ _ _ _ (l .log) (l .at) _ _ (λ j. member-or j _ _ ∙ sym (c .both .ensures j)) (l .inv .onward task)
 
@@ -126,14 +124,10 @@ asks-in-vain-spec =
     (tie.spec
     Inv-loop
     μ-loop
-    (λ c κs. tt)
-    (λ c κs. tt)
+    (λ c. search needs)
     returns
-    (λ c κs. tt)
-    returns-2
     (λ c. omega (arith, past tie.Start (search) .pre .room, past tie.Start (search) .pre .within, past tie.Start (search) .good))
-    (λ c κs. tt)
-    returns-3
+    returns-2
     (λ c κs. omega (arith, half-below (search)))
     (λ c κs. tt)
     loop-holds
@@ -154,4 +148,4 @@ asks-in-vain-spec =
     loop-again
     (λ c κs. tt)
     (λ c. past tie.At-loop (search) .loop .inv .same-length)
-    returns-4)
+    returns-3)

@@ -24,7 +24,7 @@ put-refused-requires : tie.Need-put-refused-requires
 put-refused-requires c κs = let pre = past tie.Start (search) .pre in refused-room (pre .0 .1) (pre .1)
 
 returns : tie.Need-returns
-returns c = λ survey tells. refused-sheet tells (past tie.Then1 (search) .if1 .taken) (past tie.After-put-refused (search) .put-refused .ensures)
+returns c = λ survey delivered. refused-sheet delivered (past tie.Then1 (search) .if1 .taken) (past tie.After-put-refused (search) .put-refused .ensures)
 
 put-report-requires : tie.Need-put-report-requires
 put-report-requires c κs =
@@ -37,9 +37,9 @@ put-paths-requires c κs =
     paths-room (pre .0 .1) (bytes (search)) _ (pre .1) (past tie.After-put-report (search) .put-report .ensures)
 
 returns-2 : tie.Need-returns-2
-returns-2 c = λ survey tells.
-    full-sheet tells (bytes (search)) _ (past tie.Start (search) .pre .1) (past tie.After-put-report (search) .put-report .ensures)
-    (past tie.After-put-paths (search) .put-paths .ensures _ (listed tells)) (past tie.Else1 (search) .if1 .left) (eqb-true _ _ (past tie.Then2 (search) .if2 .taken))
+returns-2 c = λ survey delivered.
+    full-sheet delivered (bytes (search)) _ (past tie.Start (search) .pre .1) (past tie.After-put-report (search) .put-report .ensures)
+    (past tie.After-put-paths (search) .put-paths .ensures _ (listed delivered)) (past tie.Else1 (search) .if1 .left) (eqb-true _ _ (past tie.Then2 (search) .if2 .taken))
 
 put-cut-requires : tie.Need-put-cut-requires
 put-cut-requires c κs =
@@ -48,9 +48,9 @@ put-cut-requires c κs =
     (past tie.After-put-paths (search) .put-paths .ensures _ (listed (pre .0 .1))) (eqb-false _ _ (past tie.Else2 (search) .if2 .left))
 
 returns-3 : tie.Need-returns-3
-returns-3 c = λ survey tells.
-    short-sheet tells (bytes (search)) _ (past tie.Start (search) .pre .1) (past tie.After-put-report (search) .put-report .ensures)
-    (past tie.After-put-paths (search) .put-paths .ensures _ (listed tells)) (eqb-false _ _ (past tie.Else2 (search) .if2 .left)) (past tie.Else1 (search) .if1 .left)
+returns-3 c = λ survey delivered.
+    short-sheet delivered (bytes (search)) _ (past tie.Start (search) .pre .1) (past tie.After-put-report (search) .put-report .ensures)
+    (past tie.After-put-paths (search) .put-paths .ensures _ (listed delivered)) (eqb-false _ _ (past tie.Else2 (search) .if2 .left)) (past tie.Else1 (search) .if1 .left)
     (past tie.After-put-cut (search) .put-cut .ensures)
 
 pub put-sheet-spec : {M : Type 1} → statement M

@@ -5,6 +5,7 @@ use Prim.Native.Nat.{ℕ, _*_, _≤_}
 use lib.ListN.{length}
 use Rattle.buffers.specs.Zeros.{zerosAfter}
 use Rattle.site.specs.Limits.{mostRadios, mostPaths}
+use Rattle.log.specs.Bytes.{messageBytes}
 use Rattle.path_lists.specs.Bytes.{pathBytes}
 use Rattle.captures.specs.Text.{mostNumber}
 use Rattle.text_survey.specs.declared.FirstLine.{FirstLine}
@@ -30,7 +31,7 @@ pub record Bounded (survey : TextSurvey) : Type 0 where
   pub capture : survey .numbers .capture ≤ mostNumber
   pub few-paths : survey .numbers .outcome .paths ≤ mostPaths
   pub few-rounds : survey .numbers .outcome .rounds ≤ mostPaths
-  pub few-messages : 4 * survey .numbers .outcome .messages ≤ logLent
+  pub few-messages : messageBytes * survey .numbers .outcome .messages ≤ logLent
   pub number : length (survey .paths) ≡ survey .numbers .outcome .paths
   pub paths-fit : length (pathBytes (survey .paths)) ≤ pathsLent
   pub cut-fits : length (survey .cut) ≤ cutLent
@@ -39,7 +40,7 @@ pub record Bounded (survey : TextSurvey) : Type 0 where
   pub items : (survey .numbers .outcome .paths ≡ survey .numbers .wanted → ⊥) → length (survey .cut) ≡ survey .numbers .outcome .paths
 
 -- these numbers and the bytes of these lists are those of the survey
-pub record Tells (survey : TextSurvey) (numbers : Surveyed) (paths cut : List ℕ) : Type 0 where
+pub record Delivered (survey : TextSurvey) (numbers : Surveyed) (paths cut : List ℕ) : Type 0 where
   pub numbers-are : numbers ≡ survey .numbers
   pub paths-are : paths ≡ zerosAfter pathsLent (pathBytes (survey .paths))
   pub cut-is : cut ≡ zerosAfter cutLent (survey .cut)
