@@ -8,6 +8,7 @@ SHELL := bash
 .SUFFIXES:
 # A build that failed leaves nothing that looks like an answer, nothing of an older build either.
 .DELETE_ON_ERROR:
+# One build after another, as rt wants it.
 .NOTPARALLEL:
 # A script that calls make again starts afresh.
 unexport MAKEFLAGS MAKELEVEL MFLAGS
