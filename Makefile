@@ -8,7 +8,7 @@ SHELL := bash
 .SUFFIXES:
 # A build that failed leaves nothing that looks like an answer, nothing of an older build either.
 .DELETE_ON_ERROR:
-# rt keeps its notes in target/, for one run at a time.
+# One build after another, as rt wants it.
 .NOTPARALLEL:
 # A script that calls make again starts afresh.
 unexport MAKEFLAGS MAKELEVEL MFLAGS
@@ -21,7 +21,8 @@ DESTDIR :=
 place = $(DESTDIR)$(PREFIX)
 
 library := target/libfogsignaller.a
-program := target/bin/sheet
+# A copy of what rt wrote, made once rt is content: what rt itself leaves in target/bin may have failed its run.
+program := target/program/sheet
 # Folders too: their date tells that a file was taken away.
 sources := crates.txt $(shell find crates)
 version := $(shell sed -n 's/^.define FOG_VERSION "\([0-9.]*\)"$$/\1/p' include/fogsignaller.h)
@@ -29,9 +30,11 @@ ifeq ($(version),)
 $(error include/fogsignaller.h has no FOG_VERSION)
 endif
 
+# The scripts of the command.
+scripts := $(wildcard share/*.awk)
 # What `make install` puts in place, and `make uninstall` takes away.
 installed := include/fogsignaller.h lib/libfogsignaller.a lib/pkgconfig/fogsignaller.pc bin/fogsignaller \
-	libexec/fogsignaller/sheet share/fogsignaller/explain.awk share/fogsignaller/dot.awk
+	libexec/fogsignaller/sheet $(scripts:share/%=share/fogsignaller/%)
 # The folders among these that nobody else uses.
 own_folders := libexec/fogsignaller share/fogsignaller
 
@@ -41,16 +44,33 @@ define rt_is_there
 fi
 endef
 
+# rt keeps its notes in target/, for one run at a time: the second build waits for the first, and then looks anew. The lock is
+# the system's, on a descriptor that every process of a build holds: it is gone with the last of them, however that ended.
+# A name of its own, or `make -n` would run it.
+make := $(MAKE)
+define build_alone
+@if $(make) -s -q $(1) CALLS='$(CALLS)'; then exit; fi; \
+if ! type flock >/dev/null 2>&1; then \
+	echo 'make: flock (util-linux) is not there, which keeps two builds apart' >&2; exit 1; \
+fi; \
+mkdir -p target; \
+exec 9>target/lock; \
+if ! flock -n 9; then echo 'make: another build is under way: waiting for its end' >&2; flock 9; fi; \
+$(make) -s $(1) CALLS='$(CALLS)' AR='$(AR)'
+endef
+
 .PHONY: all library program check install uninstall version help prefix-is-whole
 
 ## make            the library and the program
 all: library program
 
 ## make library    proves the public calls and writes target/libfogsignaller.a
-library: $(library)
+library:
+	$(call build_alone,$(library))
 
-## make program    proves the program and writes target/bin/sheet, which ./fogsignaller runs
-program: $(program)
+## make program    proves the program and writes target/program/sheet, which ./fogsignaller runs
+program:
+	$(call build_alone,$(program))
 
 ## make check      the gate, .ci/run: every proof from nothing, the tests and the comparisons
 check:
@@ -76,12 +96,16 @@ $(library): Makefile $(sources)
 
 # rt takes a program whose sources did not change for built, even where it was taken away; its stamp is that note.
 $(program): $(sources)
+	@rm -rf $(@D)
 	$(rt_is_there)
-	@mkdir -p target
-	@touch target/program.begun
-	@if [[ ! -e $@ ]]; then rm -f target/stamp/$(@F); fi
-	rt check $(@F) || { rm -f $@; exit 1; }
-	@touch -r target/program.begun $@
+	@mkdir -p $(@D)
+	@touch $(@D)/begun
+	@echo 'proving the program and writing $@'
+	@if [[ ! -e target/bin/$(@F) ]]; then rm -f target/stamp/$(@F); fi
+	@rt check $(@F)
+	@cp target/bin/$(@F) $(@D)/new
+	@touch -r $(@D)/begun $(@D)/new
+	@mv $(@D)/new $@
 
 ## make install    puts the command, the library, the header and fogsignaller.pc below PREFIX, /usr/local if not given;
 ##                 with DESTDIR all of it stands below that folder
@@ -93,7 +117,7 @@ install: prefix-is-whole library program
 		install -m 644 /dev/stdin "$(place)/lib/pkgconfig/fogsignaller.pc"
 	sed "s|^version=''\$$|version='$(version)'|" fogsignaller | install -m 755 /dev/stdin "$(place)/bin/fogsignaller"
 	install -m 755 $(program) "$(place)/libexec/fogsignaller/"
-	install -m 644 share/explain.awk share/dot.awk "$(place)/share/fogsignaller/"
+	install -m 644 $(scripts) "$(place)/share/fogsignaller/"
 
 ## make uninstall  takes away what install put there, with the same PREFIX and DESTDIR
 uninstall: prefix-is-whole

@@ -1,52 +1,47 @@
--- `sheet::main` is safe and ends: the sheet's length lies within what was lent. Assumes nothing.
-use mathlib.Core.Path.{sym}
+-- `sheet::main` is safe and ends: what was read lies within the text. Assumes nothing.
+use mathlib.Core.Path.{sym, subst}
 use native.Mathlib.Omega.{arith}
-use lib.Seq.{length-take-le}
 use borrow.Author.Needs.{needs}
+use lib.Seq.{length-take-le}
+use Rattle.io.specs.Counts.{Counts}
+use Rattle.sheet.specs.Reading.{Within}
+use Rattle.sheet.specs.declared.Reading.{Reading}
 use Rattle.sheet.proofs.main.Statement.{statement}
 use Rattle.sheet.proofs.main.Tie as tie
 
-slice-aggregate-read-full : tie.Need-slice-aggregate-read-full
-slice-aggregate-read-full c = search needs
+abbrev past : (P : Type 0) → P → P
+past P p = p
 
-read-full-requires : tie.Need-read-full-requires
-read-full-requires c κs = search needs
+-- the bytes that were read
+read : (c : tie.After-length) → Counts (c .length .given .0 .0) (past tie.After-read-text (search) .read-text .last .1 .0)
+read c =
+    let r = past tie.After-read-text (search) .read-text in
+    subst (λ (x : Reading). Within x (r .last .1 .0)) (c .length .given .1) (r .ensures)
+
+slice-aggregate-read-text : tie.Need-slice-aggregate-read-text
+slice-aggregate-read-text c = search needs
 
 array-share-prefix-text : tie.Need-array-share-prefix-text
-array-share-prefix-text c = search needs
-
-slice-aggregate-write-sheet : tie.Need-slice-aggregate-write-sheet
-slice-aggregate-write-sheet c = search needs
-
-slice-aggregate-write-sheet-2 : tie.Need-slice-aggregate-write-sheet-2
-slice-aggregate-write-sheet-2 c = search needs
-
-write-sheet-requires : tie.Need-write-sheet-requires
-write-sheet-requires c κs = search needs
-
-array-share-prefix-sheet : tie.Need-array-share-prefix-sheet
-array-share-prefix-sheet c = search needs
+array-share-prefix-text c = omega (arith, read (search) .0)
 
 slice-aggregate-write-all : tie.Need-slice-aggregate-write-all
-slice-aggregate-write-all c = sym (length-take-le _ _ (omega arith))
+slice-aggregate-write-all c = search needs
 
-write-all-requires : tie.Need-write-all-requires
-write-all-requires c κs = search needs
-
-returns : tie.Need-returns
-returns c = search needs
+slice-aggregate-write-sheet-of : tie.Need-slice-aggregate-write-sheet-of
+slice-aggregate-write-sheet-of c = sym (length-take-le _ _ (omega (arith, read (search) .0)))
 
 pub main-spec : {M : Type 1} → statement M
 main-spec =
     tie.close
     (tie.spec
-    slice-aggregate-read-full
-    read-full-requires
-    array-share-prefix-text
-    slice-aggregate-write-sheet
-    slice-aggregate-write-sheet-2
-    write-sheet-requires
-    array-share-prefix-sheet
+    slice-aggregate-read-text
+    (λ c κs. tt)
+    (λ c. search needs)
+    (λ c. search needs)
     slice-aggregate-write-all
-    write-all-requires
-    returns)
+    (λ c κs. tt)
+    (λ c. tt)
+    array-share-prefix-text
+    slice-aggregate-write-sheet-of
+    (λ c κs. tt)
+    (λ c. tt))
