@@ -1,6 +1,6 @@
 //! Calls the proved library and holds every number and every byte against the second program.
 //!
-//! Linked with libsurvey.a and built from the second program's own modules, so both sides answer
+//! Linked with libfogsignaller.a and built from the second program's own modules, so both sides answer
 //! the same call in one process. Each call has a number and is made from the seed and that number
 //! alone, so a call that differs can be made again by itself.
 

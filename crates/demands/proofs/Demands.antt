@@ -28,7 +28,7 @@ use Rattle.rounds.proofs.Shows.{Leads}
 use Rattle.rounds.proofs.Order.{Order}
 use Rattle.rounds.proofs.Depth.{round-played}
 use Rattle.outcome.specs.Leaves.{planOf, runOf, pathsFound, cutFound, outcome, logLeft, pathsLeft, cutLeft}
-use Rattle.log.specs.Bytes.{messageBytes, logBytes}
+use Rattle.log.specs.Bytes.{logBytes}
 use Rattle.path_lists.specs.Bytes.{pathBytes}
 use Rattle.buffers.specs.Zeros.{zerosAfter}
 use Rattle.demands.specs.Demand2.{Demand2}

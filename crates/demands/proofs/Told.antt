@@ -5,7 +5,7 @@ use mathlib.Core.List.{List, [], _∷_, _++_, map, append-nil}
 use Prim.Native.Nat.{ℕ, zero, suc, _*_}
 use lib.Dec.{eqb}
 use borrow.Author.Tests.{eqb-false, eq-eqb, ne-eqb}
-use Rattle.basics.specs.Lists.{among, All, AnyTwo}
+use Rattle.basics.specs.Lists.{among, All}
 use Rattle.basics.proofs.Lists.{among-here, among-there, all-follow}
 use Rattle.site.specs.Map.{Site, inHalf, outHalf, radioOf, isOut}
 use Rattle.site.proofs.Steps.{in-is-not-out, out-is-out, radio-of-in, radio-of-out}

@@ -1,25 +1,23 @@
 -- The next round begins where one is due. Assumes nothing.
 use mathlib.Core.Path.{_≡_, refl, sym, ap, ap₂, _∙_, subst}
-use mathlib.Core.Bool.{true, false≢true}
+use mathlib.Core.Bool.{false≢true}
 use mathlib.Core.List.{List}
 use Prim.Native.Nat.{ℕ, suc, _+_, _*_, _≤_, _<_}
 use native.Mathlib.Numerals.{add-one}
 use native.Mathlib.Omega.{arith}
 use lib.Dec.{eqb}
-use lib.ListN.{getD}
 use borrow.Author.Tests.{eq-eqb, ne-eqb, eqb-true, lt-ltb}
 use Rattle.basics.proofs.Counting.{some-counts}
 use Rattle.site.specs.Map.{Site, inHalf, outHalf}
 use Rattle.tokens.specs.Rules.{Plan, Entered, Notes, nobody, waits, searching, onlyS, begun, justS, goOn, innerStep}
 use Rattle.openings.proofs.Order.{untried-whole}
 use Rattle.machine.specs.declared.Task.{Task}
-use Rattle.machine.specs.declared.Stage.{Stage}
-use Rattle.machine.specs.declared.Stage.the-variants.{Searching, Declining, Granting, Won, Carrying}
+use Rattle.machine.specs.declared.Stage.the-variants.{Won}
 use Rattle.machine.specs.declared.Machine.{Machine}
 use Rattle.machine.specs.declared.Stepped.{Stepped}
 use Rattle.machine.specs.View.{beginningAt, marksOf, enteredOf, notesIn, isWon, stateOf}
 use Rattle.machine.specs.Sane.{Sane}
-use Rattle.machine.specs.Step.{Made, Ready, Follows, Steps, Continues, Rounds}
+use Rattle.machine.specs.Step.{Made, Ready, Steps, Rounds}
 use Rattle.machine.proofs.Stages.{in-stage, sane-in}
 
 module _ (task : Task) (machine : Machine) (links rows entered halves : List ℕ) where

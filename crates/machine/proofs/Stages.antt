@@ -1,5 +1,5 @@
 -- What holds where the machine is at a stage, and what the definition says of a half that searches. Assumes nothing.
-use mathlib.Core.Path.{_≡_, refl, sym, ap, _∙_, subst}
+use mathlib.Core.Path.{_≡_, refl, ap, subst}
 use mathlib.Core.Bool.{false}
 use mathlib.Core.List.{List}
 use Prim.Native.Nat.{ℕ, zero, suc, _+_, _*_, _≤_, _<_}
@@ -10,8 +10,8 @@ use lib.ListN.{getD, set, length}
 use lib.Seq.{getD-set-same, getD-set-other}
 use borrow.Author.Tests.{lt-ltb, le-ltb}
 use Rattle.site.specs.Limits.{mostRadios}
-use Rattle.site.specs.Map.{Site, inHalf, radioOf}
-use Rattle.tokens.specs.Rules.{Plan, Notes, Waiting, nobody, waits, searching, sends, message, rising, gets, tries, search, innerStep, nextPlace, candidate}
+use Rattle.site.specs.Map.{Site, inHalf}
+use Rattle.tokens.specs.Rules.{Plan, Notes, Waiting, nobody, waits, searching, sends, message, rising, gets, tries, search, innerStep, nextPlace}
 use Rattle.tokens.specs.declared.Kind.the-variants.{Pdt}
 use Rattle.openings.specs.Rows.{across, Untried, NextRadio}
 use Rattle.openings.proofs.Walks.{pair, across-radio}

@@ -1,6 +1,6 @@
 -- The contract of one inner step, and of each of its stages: what it asks of its caller, and what it leaves.
 use mathlib.Core.Path.{_≡_}
-use mathlib.Core.Bool.{true, false}
+use mathlib.Core.Bool.{false}
 use mathlib.Core.List.{List}
 use Prim.Native.Nat.{ℕ, _≤_, _<_}
 use Rattle.site.specs.Limits.{mostPaths, mostRadios}

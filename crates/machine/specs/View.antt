@@ -1,5 +1,4 @@
 -- What the machine's numbers, sets and bytes stand for: the state of the token rules.
-use mathlib.Core.Path.{_≡_}
 use mathlib.Core.Bool.{Bool, true, false}
 use mathlib.Core.List.{List}
 use Prim.Native.Nat.{ℕ, zero, suc}

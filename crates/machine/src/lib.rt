@@ -1,14 +1,13 @@
 // One inner step of the token rules, on sets of radios and bytes that the caller lends.
 ghost use mathlib.Core.Path.{_≡_};
-ghost use mathlib.Core.Bool.{true, false};
+ghost use mathlib.Core.Bool.{false};
 ghost use mathlib.Core.List.{List};
-ghost use Prim.Native.Nat.{ℕ, suc, _+_, _*_, _≤_, _<_};
-ghost use lib.Dec.{eqb};
+ghost use Prim.Native.Nat.{ℕ, _+_, _*_, _≤_, _<_};
 ghost use Rattle.site.specs.Limits.{mostRadios};
 ghost use Rattle.site.specs.Map.{Site};
 ghost use Rattle.tokens.specs.Rules.{Plan, message, waits, passOn, release};
 ghost use Rattle.openings.specs.Rows.{Open, Untried};
-ghost use Rattle.machine.specs.View.{isWon, marksOf, enteredOf, tried, waitingOf, notesIn, stateOf, movedTo, withLeft, beginningAt};
+ghost use Rattle.machine.specs.View.{isWon, marksOf, enteredOf, tried, waitingOf, notesIn, movedTo, withLeft, beginningAt};
 ghost use Rattle.machine.specs.Step.{Fits, Made, TopUntried, Agrees, Ready, Steps, Received, Rounds};
 use tokens::Answer;
 use tokens::Kind;

@@ -1,6 +1,6 @@
 -- The empty programs of document 01, "Nothing left to the builder's choice", over texts: ruled out by what `write_sheet` promises of the
 -- lent buffer. Assumes nothing.
-use mathlib.Core.Path.{_≡_, refl, ap, _∙_}
+use mathlib.Core.Path.{_≡_, refl, ap}
 use mathlib.Core.List.{List, [], _∷_, _++_}
 use Prim.Native.Nat.{ℕ, _≤_}
 use native.Mathlib.Omega.{arith}

@@ -3,7 +3,7 @@ use mathlib.Core.Path.{_≡_}
 use mathlib.Core.Bool.{true, not, cond, _&&_}
 use mathlib.Core.List.{List}
 use mathlib.Core.Logic.{_⊎_}
-use Prim.Native.Nat.{ℕ, suc, _+_, _<_}
+use Prim.Native.Nat.{ℕ, _<_}
 use lib.Dec.{eqb, leb}
 use lib.ListN.{getD}
 use Rattle.radios.specs.Member.{member}

@@ -1,13 +1,13 @@
 // What each half can walk to now, as a set of radios for each half that the caller lends.
 ghost use mathlib.Core.Path.{_≡_};
-ghost use mathlib.Core.Bool.{Bool, false, not, cond, _&&_};
+ghost use mathlib.Core.Bool.{not, cond, _&&_};
 ghost use mathlib.Core.List.{List};
 ghost use Prim.Native.Nat.{ℕ, suc, _+_, _*_, _/_, _≤_, _<_};
 ghost use lib.Dec.{eqb};
 ghost use lib.ListN.{getD, replicate};
 ghost use Rattle.radios.specs.Member.{member};
 ghost use Rattle.site.specs.Limits.{mostRadios};
-ghost use Rattle.site.specs.Map.{Site, inHalf, outHalf, radioOf, step, passes};
+ghost use Rattle.site.specs.Map.{Site, inHalf, outHalf, step, passes};
 ghost use Rattle.tokens.specs.Rules.{Plan, Marks, mayWalk, rising, unmarked, reversed, nextMarked};
 ghost use Rattle.openings.specs.Rows.{across, Open, Joined, OnSteps, Untried, NextRadio, placeInOrder};
 ghost use Rattle.radios.specs.Links.{RowsOfLinks};

@@ -10,7 +10,7 @@ use Rattle.buffers.specs.Zeros.{zerosAfter}
 use Rattle.log.specs.Bytes.{logBytes}
 use Rattle.path_lists.specs.Bytes.{pathBytes}
 use Rattle.tokens.specs.Rules.{Plan, rising, unmarked, start}
-use Rattle.tokens.specs.Run.{Entry, Run, notesOf, runFrom, pathsOf, cutOf}
+use Rattle.tokens.specs.Run.{Run, notesOf, runFrom, pathsOf, cutOf}
 use Rattle.outcome.specs.declared.Outcome.{Outcome}
 
 -- ---- an accepted run

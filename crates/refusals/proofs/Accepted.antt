@@ -1,9 +1,9 @@
 -- What the refusals that do not come guarantee, part by part: a sound map, a pair that can be asked for, and room enough. Assumes nothing.
-use mathlib.Core.Path.{_≡_, sym, _∙_}
+use mathlib.Core.Path.{_≡_, sym}
 use mathlib.Core.Bool.{not, _&&_, and-false}
 use mathlib.Core.List.{List, _++_}
 use mathlib.Core.Logic.{inl, inr}
-use Prim.Native.Nat.{ℕ, _+_, _-_, _*_, _/_, _%_, _≤_, _<_}
+use Prim.Native.Nat.{ℕ, _+_, _-_, _*_, _≤_, _<_}
 use native.Mathlib.Omega.{arith}
 use native.Mathlib.Decide.{decLt, ℕ-discrete}
 use lib.Dec.{eqb, ltb}

@@ -1,8 +1,8 @@
 -- Demand 1 over the refusals: each number is given exactly when its own condition holds and none before it does. Assumes nothing.
 use mathlib.Core.Path.{_≡_, refl, sym, _∙_}
-use mathlib.Core.Bool.{Bool, true, false, not, _||_, cond, true≢false, false≢true}
+use mathlib.Core.Bool.{Bool, true, false, _||_, cond, true≢false, false≢true}
 use mathlib.Core.List.{List, [], _∷_, _++_}
-use mathlib.Core.Logic.{_⊎_, inl, inr, _↔_}
+use mathlib.Core.Logic.{_⊎_, inl, inr}
 use Prim.Native.Nat.{ℕ, _+_, _*_, _/_, _%_, _<_, _≤_}
 use native.Mathlib.Omega.{arith}
 use native.Mathlib.Nat.{div-add-mod'}
@@ -14,7 +14,7 @@ use Rattle.basics.specs.Numbered.{Conditions, Lawful}
 use Rattle.basics.proofs.Bools.{clash, or-left, or-right, Tells, tells-below, tells-not-below, tells-equal, tells-or, tells-and, tells-not, tells-same}
 use Rattle.basics.proofs.Counting.{first-from}
 use Rattle.basics.proofs.Numbered.{law-one, law-after}
-use Rattle.site.specs.Limits.{mostRadios, mostLinks, mostPaths}
+use Rattle.site.specs.Limits.{mostRadios, mostPaths}
 use Rattle.site.specs.Map.{A}
 use Rattle.refusals.specs.Refusals.{Call, bad, badAt, badCell, firstBad, finding, refuse, passed, _orElse_, mapVerdict, pairVerdict, roomVerdict, verdict, number, placeOf}
 use Rattle.refusals.specs.Conditions.{Fault, no-bit, diagonal, mirror, FirstFault, mapConditions, pairConditions, roomConditions, conditions}

@@ -2,7 +2,6 @@
 use mathlib.Core.Path.{_≡_, refl, sym, ap, _∙_, subst}
 use mathlib.Core.Bool.{Bool, true, false, not, _&&_, _||_, and-false, or-false, false≢true}
 use mathlib.Core.List.{List}
-use mathlib.Core.Logic.{_⊎_, inl, inr}
 use Prim.Native.Nat.{ℕ, suc, _+_, _*_, _^_, _≤_, _<_}
 use native.Mathlib.Decide.{ℕ-discrete, decLt}
 use native.Mathlib.Omega.{arith}
@@ -17,13 +16,13 @@ use Rattle.radios.proofs.Laws.{member-or}
 use Rattle.site.specs.Limits.{mostRadios}
 use Rattle.site.specs.Map.{inHalf, outHalf, radioOf}
 use Rattle.tokens.specs.Rules.{Plan, Notes, message}
-use Rattle.tokens.specs.Run.{Entry, notesOf}
+use Rattle.tokens.specs.Run.{notesOf}
 use Rattle.tokens.specs.declared.Kind.{Kind}
 use Rattle.tokens.specs.declared.Kind.the-variants.{Pdt, PdtB}
 use Rattle.tokens.specs.declared.Message.{Message}
 use Rattle.log.specs.Bytes.{RoomFor}
 use Rattle.log.specs.Put.{Writable, Appends}
-use Rattle.openings.specs.Rows.{across, Untried}
+use Rattle.openings.specs.Rows.{across}
 use Rattle.openings.proofs.Walks.{from-out}
 use Rattle.openings.proofs.Order.{next-other}
 use Rattle.machine.specs.declared.Task.{Task}
@@ -31,7 +30,7 @@ use Rattle.machine.specs.declared.Stage.{Stage}
 use Rattle.machine.specs.declared.Stage.the-variants.{Searching, Declining, Granting, Won, Carrying}
 use Rattle.machine.specs.declared.Machine.{Machine}
 use Rattle.machine.specs.View.{movedTo, withLeft, enteredOf, marksOf, stateOf}
-use Rattle.machine.specs.Step.{WhileSeeking, Ready, Steps}
+use Rattle.machine.specs.Step.{WhileSeeking, Steps}
 use Rattle.machine.proofs.Stages.{sane-in}
 use Rattle.machine.proofs.Replies.{sentBy, entered-receives, untried-once-asked, search-top, search-untried, searching-asks, declining-replies}
 use Rattle.running.specs.Progress.{Beginning, Begun, Partly, Onward}

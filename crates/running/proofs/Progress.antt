@@ -2,7 +2,7 @@
 use mathlib.Core.Path.{_≡_, refl, sym, ap, _∙_}
 use mathlib.Core.Bool.{false}
 use mathlib.Core.List.{List, [], _∷_, _++_, append-assoc, append-nil}
-use Prim.Native.Nat.{ℕ, zero, suc, _+_, _-_, _≤_, _<_}
+use Prim.Native.Nat.{ℕ, zero, suc, _+_, _-_, _<_}
 use native.Mathlib.Nat.{sub-zero}
 use native.Mathlib.Omega.{arith}
 use lib.ListN.{length, length-append}
@@ -11,8 +11,8 @@ use Rattle.tokens.specs.declared.Message.{Message}
 use Rattle.tokens.specs.declared.Answer.{Answer}
 use Rattle.tokens.specs.declared.Answer.the-variants.{Sent, End}
 use Rattle.tokens.specs.Rules.{Plan, Notes, Waiting, State, won, sends, over, innerStep}
-use Rattle.tokens.specs.Run.{Entry, Run, notesOf, logged, runOn, runFrom}
-use Rattle.log.specs.Bytes.{Filled, RoomFor, logBytes}
+use Rattle.tokens.specs.Run.{Entry, notesOf, logged, runOn, runFrom}
+use Rattle.log.specs.Bytes.{RoomFor, logBytes}
 use Rattle.log.specs.Put.{Writable, Appends}
 use Rattle.log.proofs.Bytes.{filled-length}
 use Rattle.machine.specs.declared.Task.{Task}
@@ -24,7 +24,7 @@ use Rattle.machine.specs.View.{enteredOf, isWon, notesIn, stateIn, stateOf, nex
 use Rattle.machine.specs.Step.{Follows, Steps}
 use Rattle.machine.proofs.Stages.{in-stage}
 use Rattle.running.specs.Run.{Leaves}
-use Rattle.running.specs.Progress.{Beginning, Begun, wholeRun, Standing, Partly}
+use Rattle.running.specs.Progress.{Beginning, Begun, wholeRun, Partly}
 use Rattle.running.proofs.Sane.{Sound, sound-step, sane-rounds}
 
 -- ---- the run

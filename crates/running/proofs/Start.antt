@@ -1,11 +1,10 @@
 -- The rows and bytes that a run begins with stand for the start of the token rules. Assumes nothing.
-use mathlib.Core.Path.{_≡_, refl, sym, ap, ap₂, _∙_, subst, subst⁻¹}
+use mathlib.Core.Path.{_≡_, sym, ap, ap₂, _∙_, subst, subst⁻¹}
 use mathlib.Core.Bool.{true, false≢true}
 use mathlib.Core.List.{List}
-use Prim.Native.Nat.{ℕ, suc, _+_, _*_, _<_}
+use Prim.Native.Nat.{ℕ, _+_, _*_}
 use native.Mathlib.Omega.{arith}
 use lib.Dec.{eqb}
-use lib.ListN.{getD}
 use borrow.Author.Tests.{lt-ltb}
 use Rattle.site.specs.Map.{Site, outHalf, step}
 use Rattle.tokens.specs.Rules.{Plan, Marks, Entered, Notes, State, searching, waits, nobody, unmarked, start}
@@ -15,7 +14,6 @@ use Rattle.radios.specs.Links.{RowsOfLinks}
 use Rattle.openings.proofs.Turns.{marks-told}
 use Rattle.openings.proofs.Order.{untried-whole}
 use Rattle.machine.specs.declared.Task.{Task}
-use Rattle.machine.specs.declared.Stage.the-variants.{Searching}
 use Rattle.machine.specs.declared.Machine.{Machine}
 use Rattle.machine.specs.View.{beginningAt, marksOf, enteredOf, stateOf}
 use Rattle.machine.specs.Sane.{Sane}

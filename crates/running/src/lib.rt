@@ -1,7 +1,4 @@
 // The run that fills the log: the inner steps one after another, until the run is over or the budget is spent.
-ghost use mathlib.Core.Path.{_≡_};
-ghost use mathlib.Core.List.{List};
-ghost use Prim.Native.Nat.{ℕ};
 ghost use Rattle.tokens.specs.Rules.{Plan, start};
 ghost use Rattle.tokens.specs.Run.{runFrom};
 ghost use Rattle.log.specs.Bytes.{RoomFor};

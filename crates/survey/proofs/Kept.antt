@@ -2,7 +2,6 @@
 use mathlib.Core.Path.{_≡_, refl, sym, ap, _∙_}
 use mathlib.Core.List.{List}
 use Prim.Native.Nat.{ℕ}
-use native.Mathlib.Omega.{arith}
 use lib.ListN.{length, replicate}
 use Rattle.refusals.specs.Refusals.{Call, callOf, verdict, number, placeOf}
 use Rattle.refusals.proofs.Accepted.{Room, accepted-valid, accepted-room}

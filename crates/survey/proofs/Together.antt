@@ -1,5 +1,5 @@
 -- An accepted call, part by part: what each part may ask, and that what they leave together is the outcome. Assumes nothing.
-use mathlib.Core.Path.{_≡_, refl, sym, ap, _∙_}
+use mathlib.Core.Path.{_≡_, sym, ap, _∙_}
 use mathlib.Core.Bool.{cond}
 use mathlib.Core.List.{List, [], _++_}
 use Prim.Native.Nat.{ℕ, _-_, _*_, _/_, _≤_, _<_}

@@ -1,9 +1,7 @@
 -- `machine::gives_up` meets its contract. Assumes nothing.
-use mathlib.Core.Path.{_≡_, sym, subst}
-use Prim.Native.Nat.{ℕ, _-_, _*_, _<_}
+use Prim.Native.Nat.{_-_, _*_, _<_}
 use native.Mathlib.Omega.{arith}
 use Rattle.site.specs.Limits.{mostRadios}
-use Rattle.openings.specs.Rows.{Joined}
 use Rattle.machine.specs.View.{marksOf}
 use Rattle.machine.proofs.Replies.{Searches, searches, search-top, searching-fails, searching-replies}
 use Rattle.machine.proofs.gives_up.Statement.{statement}

@@ -1,7 +1,6 @@
 -- `machine::receives` meets its contract. Assumes nothing.
 use mathlib.Core.Path.{sym, ap, _∙_}
 use native.Mathlib.Omega.{arith}
-use borrow.Author.Needs.{needs}
 use Rattle.site.specs.Map.{inHalf}
 use Rattle.machine.proofs.Replies.{T-receives, entered-receives, new-receives}
 use Rattle.machine.proofs.receives.Statement.{statement}
