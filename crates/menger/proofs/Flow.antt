@@ -14,7 +14,7 @@ use Rattle.basics.specs.Lists.{among, Different}
 use Rattle.basics.proofs.Bools.{clash}
 use Rattle.basics.proofs.Counting.{sum-ext, sum-update}
 use Rattle.basics.proofs.Lists.{among-neither}
-use Rattle.menger.proofs.Network.{Network, Split, Marks, walkable, turned, Way, allTurned, Walked}
+use Rattle.menger.proofs.Network.{Network, Split, Marks, walkable, turned, Way, allTurned, WayTurned}
 use Rattle.menger.proofs.Walks.{walk-cases, walk-below, Between, turns-this, others-stand, turns-steps}
 
 -- the marked steps into half h
@@ -108,7 +108,7 @@ module _ (net : Network) where
   all-on-steps m y (h ∷ rest) on = all-on-steps (turned net h y m) h rest (turns-steps net m h y on)
 
 -- a won round makes one unit more flow
-pub one-more : {net : Network} → Split net → {p : ℕ} {m m′ : Marks} → Flow net p m → Walked net m m′ → Flow net (suc p) m′
+pub one-more : {net : Network} → Split net → {p : ℕ} {m m′ : Marks} → Flow net p m → WayTurned net m m′ → Flow net (suc p) m′
 one-more {net} split {p} {m} flow walked = rw (walked .turns) (record {
   on-steps = all-on-steps net m (net .goal) (walked .halves) (flow .on-steps);
   kept = λ h. omega (arith, flow .kept h, way-moves net split m (net .goal) (walked .halves) (walked .way) (walked .once) h, suc-mul p (oneIf (eqb h (net .source))), suc-mul p (oneIf (eqb h (net .goal))));

@@ -52,7 +52,7 @@ allTurned net y [] marks = marks
 allTurned net y (h ∷ rest) marks = allTurned net h rest (turned net h y marks)
 
 -- a round was won: a walk from the source to the goal, over steps that could be walked under the old marks and meeting no half twice, was turned
-pub record Walked (net : Network) (marks marks′ : Marks) : Type 0 where
+pub record WayTurned (net : Network) (marks marks′ : Marks) : Type 0 where
   pub halves : List ℕ
   pub way : Way net marks (net .goal) halves
   pub once : Different (net .goal ∷ halves)

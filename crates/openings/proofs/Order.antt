@@ -13,7 +13,7 @@ use Rattle.basics.proofs.Bools.{clash, and-left, and-right, not-true→false}
 use Rattle.basics.proofs.Counting.{first-is, first-from}
 use Rattle.radios.specs.Member.{member}
 use Rattle.radios.proofs.Laws.{member-empty, some-member}
-use Rattle.site.specs.Map.{Site, link, inHalf, outHalf, radioOf, isOut, step}
+use Rattle.site.specs.Map.{Site, linkedOn, inHalf, outHalf, radioOf, isOut, step}
 use Rattle.tokens.specs.Rules.{Plan, Marks, mayWalk, rising, candidate, canTry, nextPlace, nextMarked}
 use Rattle.openings.specs.Rows.{across, Open, OnSteps, placeInOrder, Untried, NextRadio}
 use Rattle.radios.specs.Links.{RowsOfLinks}
@@ -254,7 +254,7 @@ module _ (site : Site) (marks : Marks) (h v row : ℕ) (below : v < site .n) (is
 
 module _ (site : Site) (marks : Marks) (u : ℕ) (nt : u ≡ site .T → ⊥) (rows : List ℕ) (on : OnSteps site marks) (now : Open site marks rows) where
   pub marked-is : (s : ℕ) (links : List ℕ) → site .S ≡ s → RowsOfLinks (site .table) (site .n) links → (w : ℕ) → (not (eqb w s) && (member w (getD links u 0) && not (member w (getD rows (outHalf u) 0)))) ≡ marks (outHalf u) (inHalf w)
-  marked-is s links source is w = rw (← source, is u w) (go (not (eqb w (site .S))) (link site u w) (step site (outHalf u) (inHalf w)) refl (sym (step-out site u w nt)))
+  marked-is s links source is w = rw (← source, is u w) (go (not (eqb w (site .S))) (linkedOn site u w) (step site (outHalf u) (inHalf w)) refl (sym (step-out site u w nt)))
     where
       go : (a b c : Bool) → step site (outHalf u) (inHalf w) ≡ c → (a && b) ≡ c → (a && (b && not (member w (getD rows (outHalf u) 0)))) ≡ marks (outHalf u) (inHalf w)
       go true true true e d = rw (now (outHalf u) w, from-out u w, walk-step site marks (outHalf u) (inHalf w) e) (Bool·not-not (marks (outHalf u) (inHalf w)))

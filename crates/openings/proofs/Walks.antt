@@ -8,7 +8,7 @@ use native.Mathlib.Omega.{arith}
 use lib.Dec.{eqb}
 use borrow.Author.Tests.{eq-eqb, ne-eqb}
 use Rattle.basics.proofs.Bools.{or-cases, and-left, not-true→false}
-use Rattle.site.specs.Map.{Site, link, inHalf, outHalf, step}
+use Rattle.site.specs.Map.{Site, linkedOn, inHalf, outHalf, step}
 use Rattle.site.proofs.Steps.{in-is-not-out, out-is-out, radio-of-in, radio-of-out, step-over, step-link, none-into-S, Step, inside, over, step-of, linked-says}
 use Rattle.tokens.specs.Rules.{Marks, mayWalk, unmarked}
 use Rattle.openings.specs.Rows.{across, Joined}
@@ -91,10 +91,10 @@ walk-below site marks h v p = not-true→false _ (λ e. let w = pair site h (acr
 -- ---- the start
 
 -- an out half other than T's has a step to each radio linked to it but S
-pub step-out : (site : Site) (u v : ℕ) → (u ≡ site .T → ⊥) → step site (outHalf u) (inHalf v) ≡ (not (eqb v (site .S)) && link site u v)
-step-out site u v nt = pick (ℕ-discrete v (site .S)) (link site u v) refl
+pub step-out : (site : Site) (u v : ℕ) → (u ≡ site .T → ⊥) → step site (outHalf u) (inHalf v) ≡ (not (eqb v (site .S)) && linkedOn site u v)
+step-out site u v nt = pick (ℕ-discrete v (site .S)) (linkedOn site u v) refl
   where
-    pick : Dec (v ≡ site .S) → (b : Bool) → link site u v ≡ b → step site (outHalf u) (inHalf v) ≡ (not (eqb v (site .S)) && link site u v)
+    pick : Dec (v ≡ site .S) → (b : Bool) → linkedOn site u v ≡ b → step site (outHalf u) (inHalf v) ≡ (not (eqb v (site .S)) && linkedOn site u v)
     pick (yes e) b d = rw (eq-eqb v (site .S) e, e) (none-into-S site u)
     pick (no e) true d = let w = linked-says site u v d in rw (ne-eqb v (site .S) e) (step-link site u v (w .from-below) (w .to-below) nt e)
     pick (no e) false d = rw (step-over site u v, d, and-false) refl

@@ -16,7 +16,7 @@ use Rattle.site.proofs.Valid.{Valid}
 use Rattle.tokens.specs.declared.Kind.the-variants.{Pdt, PdtB, Pmt}
 use Rattle.tokens.specs.Rules.{Marks, Plan, Entered, Notes, Waiting, nobody, waits, searching, granting, won, justS, candidate, canTry, nextPlace, message, gets, tries, search, reversed, turning, entering, onePathMore, grant, decline, innerStep}
 use Rattle.tokens.specs.Run.{notesOf}
-use Rattle.menger.proofs.Network.{walkable, turned, allTurned, Walked, Split}
+use Rattle.menger.proofs.Network.{walkable, turned, allTurned, WayTurned, Split}
 use Rattle.menger.proofs.Walks.{walk-below, walkable-steps}
 use Rattle.routes.proofs.Trails.{networkOf}
 use Rattle.routes.proofs.Split.{split-of}
@@ -53,7 +53,7 @@ module _ (plan : Plan) (notes : Notes) where
   -- each half that waits turns its step and is paid, down to S
   unwinds :
       (left : Unsent) {most : ℕ} (y h i : ℕ) (rest : Waiting) (current : Notes) → current .round ≡ notes .round → current .found ≡ notes .found
-      → Walked (networkOf (plan .site)) (notes .marks) (allTurned (networkOf (plan .site)) y (h ∷ halvesOf rest) (current .marks)) → length (h ∷ halvesOf rest) ≤ most
+      → WayTurned (networkOf (plan .site)) (notes .marks) (allTurned (networkOf (plan .site)) y (h ∷ halvesOf rest) (current .marks)) → length (h ∷ halvesOf rest) ≤ most
       → Rest plan notes left (awaited y (h ∷ halvesOf rest)) most (granting y current (waits h i rest))
   unfolding innerStep grant allTurned
   unwinds left y h i nobody current round found walked p =
@@ -103,7 +103,7 @@ module _ (plan : Plan) (notes : Notes) where
         goal : y ≡ inHalf (plan .site .T)
         goal = eqb-true _ _ e
 
-        walked : Walked (networkOf (plan .site)) (notes .marks) (allTurned (networkOf (plan .site)) y (h ∷ halvesOf rest) (notes .marks))
+        walked : WayTurned (networkOf (plan .site)) (notes .marks) (allTurned (networkOf (plan .site)) y (h ∷ halvesOf rest) (notes .marks))
         walked = record { halves = h ∷ halvesOf rest; way = (rw goal at walk, s .chain); once = new-to-all plan (notes .marks) s (s .goal-out); turns = rw goal }
     gets-pdt entered left y h i rest false true e f s walk p =
         before plan notes (message PdtB y h) refl refl (owes y h (halvesOf rest)) (answers y h (halvesOf rest)) (none-goes left) (omega arith)

@@ -13,7 +13,7 @@ use Rattle.tokens.specs.declared.Kind.the-variants.{Pdt, PdtB, Pmt, Done}
 use Rattle.tokens.specs.declared.Message.{Message}
 use Rattle.tokens.specs.Rules.{Plan, Notes, State, won, sends, onlyS, justS, release, search, innerStep}
 use Rattle.tokens.specs.Run.{Entry, notesOf}
-use Rattle.menger.proofs.Network.{walkable, Walked, Shut}
+use Rattle.menger.proofs.Network.{walkable, WayTurned, Shut}
 use Rattle.routes.proofs.Trails.{networkOf}
 
 -- from one state to another by inner steps that send this log
@@ -70,7 +70,7 @@ pub record Won (plan : Plan) (notes : Notes) (end : State) : Type 0 where
   pub is-won : end ≡ won after
   pub same-round : after .round ≡ notes .round
   pub one-more : after .found ≡ suc (notes .found)
-  pub walked : Walked (networkOf (plan .site)) (notes .marks) (after .marks)
+  pub walked : WayTurned (networkOf (plan .site)) (notes .marks) (after .marks)
 
 -- it was lost: S is about to send DONE; marks and counts stand, the entered halves are closed
 pub record Lost (plan : Plan) (state : State) (log : List Message) (notes : Notes) (end : State) : Type 0 where

@@ -9,7 +9,7 @@ use borrow.Author.Tests.{eq-eqb, ne-eqb, lt-ltb, ltb-true, ltb-false}
 use Rattle.basics.specs.Counting.{oneIf, sum, count}
 use Rattle.basics.proofs.Counting.{sum-ext, sum-update, sum-add, sum-zero, sum-one, sum-swap, sum-pairs, sum-above-two, one-at-most, count-only}
 use Rattle.site.proofs.Steps.{step-inside, step-to-out, none-from-T, none-into-S, step-link}
-use Rattle.site.specs.Map.{Site, linked, degree, links, link, inHalf, outHalf, passes, step, A}
+use Rattle.site.specs.Map.{Site, linked, degree, links, linkedOn, inHalf, outHalf, passes, step, A}
 
 -- the table is symmetric: u is linked to v if v is linked to u
 abbrev pub Even : List ℕ → ℕ → Type 0
@@ -89,28 +89,28 @@ module _ (site : Site) (S-in : site .S < site .n) (T-in : site .T < site .n) (di
       inner-T = rw (eq-eqb (site .T) (site .T) refl, and-false)
 
   -- each link has a step each way, but for those from T and those into S
-  steps-over : sum (over site) (site .n) + degree (site .table) (site .n) (site .S) + degree (site .table) (site .n) (site .T) ≡ sum (degree (site .table) (site .n)) (site .n) + oneIf (link site (site .S) (site .T))
+  steps-over : sum (over site) (site .n) + degree (site .table) (site .n) (site .S) + degree (site .table) (site .n) (site .T) ≡ sum (degree (site .table) (site .n)) (site .n) + oneIf (linkedOn site (site .S) (site .T))
   steps-over = omega (
     arith,
     sum-update (λ u. over site u + to-S u) (degree (site .table) (site .n)) (site .T) (site .n) T-in row,
     sum-add (over site) to-S (site .n),
     sum-ext _ (λ v. 0) (site .n) (λ v p. ap oneIf (none-from-T site v)) ∙ sum-zero (site .n),
-    sum-ext to-S (λ u. oneIf (link site (site .S) u)) (site .n) (λ u p. ap oneIf (even u (site .S))),
+    sum-ext to-S (λ u. oneIf (linkedOn site (site .S) u)) (site .n) (λ u p. ap oneIf (even u (site .S))),
     ap oneIf (even (site .T) (site .S)),
   )
     where
       to-S : ℕ → ℕ
-      to-S u = oneIf (link site u (site .S))
+      to-S u = oneIf (linkedOn site u (site .S))
 
       row : (u : ℕ) → u < site .n → (u ≡ site .T → ⊥) → over site u + to-S u ≡ degree (site .table) (site .n) u
       row u p nt = omega (
         arith,
-        sum-update (λ v. oneIf (step site (outHalf u) (inHalf v))) (λ v. oneIf (link site u v)) (site .S) (site .n) S-in (λ v q ns. ap oneIf (step-link site u v p q nt ns)),
+        sum-update (λ v. oneIf (step site (outHalf u) (inHalf v))) (λ v. oneIf (linkedOn site u v)) (site .S) (site .n) S-in (λ v q ns. ap oneIf (step-link site u v p q nt ns)),
         ap oneIf (none-into-S site u),
       )
 
   -- document 01's formula with nothing taken away
-  pub steps-and-degrees : A site + degree (site .table) (site .n) (site .S) + degree (site .table) (site .n) (site .T) + 2 ≡ 2 * links (site .table) (site .n) + oneIf (link site (site .S) (site .T)) + site .n
+  pub steps-and-degrees : A site + degree (site .table) (site .n) (site .S) + degree (site .table) (site .n) (site .T) + 2 ≡ 2 * links (site .table) (site .n) + oneIf (linkedOn site (site .S) (site .T)) + site .n
   unfolding A
   steps-and-degrees = omega (
     arith,
@@ -127,9 +127,9 @@ module _ (site : Site) (S-in : site .S < site .n) (T-in : site .T < site .n) (di
   two-degrees = omega (arith, sum-above-two (degree (site .table) (site .n)) (site .S) (site .T) (site .n) S-in T-in differ, degrees-twice-links (site .table) (site .n) even)
 
   -- A = 2m − deg S − deg T + (1 if S and T are linked, else 0) + n − 2
-  pub formula : A site ≡ 2 * links (site .table) (site .n) - degree (site .table) (site .n) (site .S) - degree (site .table) (site .n) (site .T) + oneIf (link site (site .S) (site .T)) + site .n - 2
+  pub formula : A site ≡ 2 * links (site .table) (site .n) - degree (site .table) (site .n) (site .S) - degree (site .table) (site .n) (site .T) + oneIf (linkedOn site (site .S) (site .T)) + site .n - 2
   formula = omega (arith, steps-and-degrees, two-degrees)
 
   -- there are at most 2m + n steps
   pub few-steps : A site ≤ 2 * links (site .table) (site .n) + site .n
-  few-steps = omega (arith, steps-and-degrees, one-at-most (link site (site .S) (site .T)))
+  few-steps = omega (arith, steps-and-degrees, one-at-most (linkedOn site (site .S) (site .T)))

@@ -7,7 +7,7 @@ use native.Mathlib.Omega.{arith}
 use lib.Dec.{eqb, ltb}
 use borrow.Author.Tests.{eqb-true, eqb-false, eq-eqb, ne-eqb, lt-ltb, ltb-true, not-true}
 use Rattle.basics.proofs.Bools.{or-cases, and-left, and-right}
-use Rattle.site.specs.Map.{Site, linked, link, inHalf, outHalf, radioOf, isOut, exists, passes, insideStep, linkStep, step}
+use Rattle.site.specs.Map.{Site, linked, linkedOn, inHalf, outHalf, radioOf, isOut, exists, passes, insideStep, linkStep, step}
 
 -- ---- the tests, half by half
 
@@ -36,7 +36,7 @@ module _ (site : Site) where
   step-to-out u v = rw (out-is-out u, out-is-out v)
 
   -- from an out half to an in half there is a step for each link whose halves exist
-  pub step-over : (u v : ℕ) → step site (outHalf u) (inHalf v) ≡ (link site u v && exists site (outHalf u) && exists site (inHalf v))
+  pub step-over : (u v : ℕ) → step site (outHalf u) (inHalf v) ≡ (linkedOn site u v && exists site (outHalf u) && exists site (inHalf v))
   unfolding step insideStep linkStep
   step-over u v = rw (out-is-out u, in-is-not-out v, radio-of-out u, radio-of-in v)
 
@@ -61,7 +61,7 @@ module _ (site : Site) where
   in-exists v p ns = rw (radio-of-in v, lt-ltb v (site .n) p, ne-eqb (inHalf v) (inHalf (site .S)) (omega arith), ne-eqb (inHalf v) (outHalf (site .T)) (omega arith))
 
   -- every link has its step but from T and into S
-  pub step-link : (u v : ℕ) → u < site .n → v < site .n → (u ≡ site .T → ⊥) → (v ≡ site .S → ⊥) → step site (outHalf u) (inHalf v) ≡ link site u v
+  pub step-link : (u v : ℕ) → u < site .n → v < site .n → (u ≡ site .T → ⊥) → (v ≡ site .S → ⊥) → step site (outHalf u) (inHalf v) ≡ linkedOn site u v
   step-link u v p q nt ns = rw (step-over u v, out-exists u p nt, in-exists v q ns) (simp and-true)
 
 -- ---- what a link and a step say
@@ -71,7 +71,7 @@ pub record Linked (site : Site) (u v : ℕ) : Type 0 where
   pub to-below : v < site .n
   pub differ : u ≡ v → ⊥
 
-pub linked-says : (site : Site) (u v : ℕ) → link site u v ≡ true → Linked site u v
+pub linked-says : (site : Site) (u v : ℕ) → linkedOn site u v ≡ true → Linked site u v
 unfolding linked
 linked-says site u v e =
     let parts : (ltb u (site .n) ≡ true) × (ltb v (site .n) ≡ true) × (not (eqb u v) ≡ true) = search (and-left, and-right) in
@@ -80,7 +80,7 @@ linked-says site u v e =
 -- a step leads inside a radio, or over a link
 pub data Step (site : Site) (a b : ℕ) : Type 0 where
   inside : (v : ℕ) → a ≡ inHalf v → b ≡ outHalf v → v < site .n → (v ≡ site .S → ⊥) → (v ≡ site .T → ⊥) → Step site a b
-  over : (u v : ℕ) → a ≡ outHalf u → b ≡ inHalf v → link site u v ≡ true → (u ≡ site .T → ⊥) → (v ≡ site .S → ⊥) → Step site a b
+  over : (u v : ℕ) → a ≡ outHalf u → b ≡ inHalf v → linkedOn site u v ≡ true → (u ≡ site .T → ⊥) → (v ≡ site .S → ⊥) → Step site a b
 
 inside-of : (site : Site) (a b : ℕ) → insideStep site a b ≡ true → Step site a b
 unfolding insideStep passes
@@ -94,7 +94,7 @@ inside-of site a b w =
 over-of : (site : Site) (a b : ℕ) → linkStep site a b ≡ true → Step site a b
 unfolding linkStep exists
 over-of site a b w =
-    let halves : (isOut a ≡ true) × (not (isOut b) ≡ true) × (link site (radioOf a) (radioOf b) ≡ true) = search (and-left, and-right) in
+    let halves : (isOut a ≡ true) × (not (isOut b) ≡ true) × (linkedOn site (radioOf a) (radioOf b) ≡ true) = search (and-left, and-right) in
     let there : (not (eqb a (outHalf (site .T))) ≡ true) × (not (eqb b (inHalf (site .S))) ≡ true) = search (and-left, and-right) in
     let high : a % 2 ≡ 1 = eqb-true _ _ (halves .0) in
     let low : b % 2 ≡ 1 → ⊥ = eqb-false _ _ (not-true _ (halves .1)) in
@@ -116,5 +116,5 @@ pub inside-step : (site : Site) (v : ℕ) → v < site .n → (v ≡ site .S →
 unfolding passes
 inside-step site v p ns nt = rw (step-inside site v (outHalf v), eq-eqb (outHalf v) (outHalf v) refl, lt-ltb v (site .n) p, ne-eqb v (site .S) ns, ne-eqb v (site .T) nt)
 
-pub over-step : (site : Site) (u v : ℕ) → link site u v ≡ true → (u ≡ site .T → ⊥) → (v ≡ site .S → ⊥) → step site (outHalf u) (inHalf v) ≡ true
+pub over-step : (site : Site) (u v : ℕ) → linkedOn site u v ≡ true → (u ≡ site .T → ⊥) → (v ≡ site .S → ⊥) → step site (outHalf u) (inHalf v) ≡ true
 over-step site u v e nt ns = let w = linked-says site u v e in step-link site u v (w .from-below) (w .to-below) nt ns ∙ e

@@ -27,8 +27,9 @@ degree table n u = count (linked table n u) n
 unfoldable pub links : List ℕ → ℕ → ℕ
 links table n = sum (λ u. count (λ v. ltb u v && linked table n u v) n) n
 
-abbrev pub link : Site → ℕ → ℕ → Bool
-link site u v = linked (site .table) (site .n) u v
+-- are radios u and v linked on this site?
+abbrev pub linkedOn : Site → ℕ → ℕ → Bool
+linkedOn site u v = linked (site .table) (site .n) u v
 
 -- ---- halves
 
@@ -61,7 +62,7 @@ insideStep site a b = not (isOut a) && eqb b (a + 1) && passes site (radioOf a)
 
 -- for a link u, v from u's out half to v's in half, left out where a half does not exist
 unfoldable pub linkStep : Site → ℕ → ℕ → Bool
-linkStep site a b = isOut a && not (isOut b) && link site (radioOf a) (radioOf b) && exists site a && exists site b
+linkStep site a b = isOut a && not (isOut b) && linkedOn site (radioOf a) (radioOf b) && exists site a && exists site b
 
 -- there is a step from half a to half b
 unfoldable pub step : Site → ℕ → ℕ → Bool

@@ -7,12 +7,12 @@ use Prim.Native.Nat.{ℕ, _<_, _≤_}
 use lib.ListN.{length}
 use Rattle.basics.specs.Lists.{among, Different, All, AnyTwo}
 use Rattle.site.specs.Limits.{directLink}
-use Rattle.site.specs.Map.{Site, link}
+use Rattle.site.specs.Map.{Site, linkedOn}
 
 -- from radio u along the list to T, each linked to the next
 abbrev pub LeadsToT : Site → ℕ → List ℕ → Type 0
 LeadsToT site u [] = u ≡ site .T
-LeadsToT site u (v ∷ rest) = (link site u v ≡ true) × LeadsToT site v rest
+LeadsToT site u (v ∷ rest) = (linkedOn site u v ≡ true) × LeadsToT site v rest
 
 -- a path: a list of different radios from S to T, each linked to the next
 pub record Path (site : Site) (p : List ℕ) : Type 0 where
@@ -40,7 +40,7 @@ pub record Largest (site : Site) (M : ℕ) : Type 0 where
 
 -- what a cut may name: a radio other than S and T, or the direct link where there is one
 abbrev pub CutItem : Site → ℕ → Type 0
-CutItem site x = ((x < site .n) × (x ≡ site .S → ⊥) × (x ≡ site .T → ⊥)) ⊎ ((x ≡ directLink) × (link site (site .S) (site .T) ≡ true))
+CutItem site x = ((x < site .n) × (x ≡ site .S → ⊥) × (x ≡ site .T → ⊥)) ⊎ ((x ≡ directLink) × (linkedOn site (site .S) (site .T) ≡ true))
 
 -- the item meets the path: the path holds the radio, or is the direct link
 abbrev pub Meets : Site → ℕ → List ℕ → Type 0

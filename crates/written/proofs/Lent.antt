@@ -17,7 +17,7 @@ use Rattle.basics.specs.Numbered.{Conditions, Gives, NoneHolds}
 use Rattle.basics.proofs.Counting.{some-counts}
 use Rattle.basics.proofs.Numbered.{gives-parts}
 use Rattle.site.specs.Limits.{mostRadios}
-use Rattle.site.specs.Map.{Site, degree, links, link, A}
+use Rattle.site.specs.Map.{Site, degree, links, linkedOn, A}
 use Rattle.refusals.specs.Refusals.{Call, callOf, verdict, number}
 use Rattle.refusals.specs.Conditions.{Fault, no-bit, diagonal, mirror, mapConditions, pairConditions, roomConditions, conditions}
 use Rattle.site.proofs.Formula.{Even, steps-and-degrees}
@@ -133,10 +133,10 @@ no-fault n lines ord some place p = go (inCells n place lines) refl
 -- with S and T linked S has a link, so there are at most 2m + n − 2 steps
 most-steps : (site : Site) → site .S < site .n → site .T < site .n → (site .S ≡ site .T → ⊥) → Even (site .table) (site .n)
     → A site + 2 ≤ 2 * links (site .table) (site .n) + site .n
-most-steps site source sink differ even = omega (arith, steps-and-degrees site source sink differ even, direct (link site (site .S) (site .T)) refl)
+most-steps site source sink differ even = omega (arith, steps-and-degrees site source sink differ even, direct (linkedOn site (site .S) (site .T)) refl)
   where
-    direct : (b : Bool) → link site (site .S) (site .T) ≡ b → oneIf b ≤ degree (site .table) (site .n) (site .S)
-    direct true e = omega (arith, some-counts (link site (site .S)) (site .n) (site .T) sink e)
+    direct : (b : Bool) → linkedOn site (site .S) (site .T) ≡ b → oneIf b ≤ degree (site .table) (site .n) (site .S)
+    direct true e = omega (arith, some-counts (linkedOn site (site .S)) (site .n) (site .T) sink e)
     direct false e = omega arith
 
 -- ---- the refusals that are left
