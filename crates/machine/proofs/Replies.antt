@@ -1,11 +1,12 @@
 -- What each stage of the step leaves, by what its parts left. Assumes nothing.
 use mathlib.Core.Path.{_≡_, refl, sym, ap, ap₂, _∙_, subst}
-use mathlib.Core.Bool.{Bool, true, false, not, _&&_, _||_, false≢true}
+use mathlib.Core.Bool.{Bool, true, false, not, cond, _&&_, _||_, false≢true}
 use mathlib.Core.List.{List}
 use Prim.Native.Nat.{ℕ, suc, _+_, _*_, _%_, _≤_, _<_}
+use native.Mathlib.Decide.{decLt}
 use native.Mathlib.Numerals.{add-one}
 use native.Mathlib.Omega.{arith}
-use lib.Dec.{eqb}
+use lib.Dec.{eqb, ltb}
 use lib.ListN.{getD}
 use borrow.Author.Tests.{eq-eqb, ne-eqb, lt-ltb, le-ltb}
 use Rattle.radios.specs.Member.{member}
@@ -25,7 +26,7 @@ use Rattle.machine.specs.declared.Stage.{Stage}
 use Rattle.machine.specs.declared.Stage.the-variants.{Searching, Declining, Granting, Won, Carrying}
 use Rattle.machine.specs.declared.Machine.{Machine}
 use Rattle.machine.specs.declared.Stepped.{Stepped}
-use Rattle.machine.specs.View.{movedTo, marksOf, enteredOf, tried, waitingOf, notesIn, stateIn, stackOf, stateOf}
+use Rattle.machine.specs.View.{movedTo, withLeft, marksOf, enteredOf, tried, waitingOf, notesIn, stateIn, stackOf, stateOf}
 use Rattle.machine.specs.Step.{Fits, TopUntried, Ready, Agrees, Follows, Received}
 use Rattle.machine.proofs.Stages.{tried-across, in-stage, sane-in, untried-in, Top, on-top, asks-next, asks-no-more}
 
@@ -35,14 +36,14 @@ sentBy message machine = record { answer = Sent message; machine = machine }
 
 -- ---- a PDT is received in one of three ways
 
-module _ (site : Site) (machine next : Machine) (y left : ℕ) (rows entered entered′ halves : List ℕ) where
+module _ (site : Site) (machine next : Machine) (y : ℕ) (rows entered entered′ halves : List ℕ) where
   abbrev Above : Waiting
   Above = waits (machine .half) (tried site (machine .half) y) (waitingOf site halves (machine .depth) (machine .half))
 
   abbrev Noted : Entered → Notes
   Noted now = record { round = machine .round; found = machine .found; marks = marksOf site rows; entered = now }
 
-  pub T-receives : y ≡ inHalf (site .T) → enteredOf entered′ ≡ (λ x. eqb x y || enteredOf entered x) → next ≡ movedTo machine Granting (machine .half) y left (machine .depth)
+  pub T-receives : y ≡ inHalf (site .T) → enteredOf entered′ ≡ (λ x. eqb x y || enteredOf entered x) → next ≡ movedTo machine Granting (machine .half) y (machine .left) (machine .depth)
       → Received site machine y rows entered halves next entered′ halves
   unfolding gets
   T-receives t e m =
@@ -53,8 +54,8 @@ module _ (site : Site) (machine next : Machine) (y left : ℕ) (rows entered ent
         state = rw (eq-eqb y (inHalf (site .T)) t) (ap (λ (now : Entered). granting y (Noted now) Above) (sym e));
       })
 
-  pub entered-receives : (y ≡ inHalf (site .T) → ⊥) → enteredOf entered y ≡ true → Untried site (marksOf site rows) (machine .half) (tried site (machine .half) y) left
-      → next ≡ movedTo machine Declining (machine .half) y left (machine .depth) → Received site machine y rows entered halves next entered halves
+  pub entered-receives : (y ≡ inHalf (site .T) → ⊥) → enteredOf entered y ≡ true → Untried site (marksOf site rows) (machine .half) (tried site (machine .half) y) (machine .left)
+      → next ≡ movedTo machine Declining (machine .half) y (machine .left) (machine .depth) → Received site machine y rows entered halves next entered halves
   unfolding gets
   entered-receives t e rest m = rw m (record { place = tried site (machine .half) y; untried = rest; state = rw (ne-eqb y (inHalf (site .T)) t, e) refl })
 
@@ -84,14 +85,31 @@ module _ (site : Site) (machine : Machine) (stepped : Stepped) (rows entered hal
   unfolding passOn
   not-passed place l untried = record { place = place; untried = untried; answers = rw (le-ltb w (site .n) l) refl }
 
+-- a number above the map's stands for no radio, as n does
+abbrev orNone : Site → ℕ → ℕ
+orNone site w = cond (ltb w (site .n)) w (site .n)
+
+passes-none : (site : Site) (h v v′ w : ℕ) (notes : Notes) → (w < site .n → v ≡ v′) → passOn site h v (orNone site w) notes ≡ passOn site h v′ w notes
+unfolding passOn
+passes-none site h v v′ w notes same = go (decLt w (site .n))
+  where
+    go : Dec (w < site .n) → passOn site h v (orNone site w) notes ≡ passOn site h v′ w notes
+    go (yes l) = rw (lt-ltb w (site .n) l, lt-ltb w (site .n) l, same l) refl
+    go (no l) = rw (le-ltb w (site .n) (omega arith), le-ltb (site .n) (site .n) (omega arith)) refl
+
 module _ (site : Site) (machine : Machine) (stepped : Stepped) (rows entered halves : List ℕ) (v w : ℕ) where
   abbrev Sends : ℕ → Type 0
-  Sends s = nextMarked site (marksOf site rows) (outHalf s) v ≡ w → Agrees site (passOn site (outHalf s) w w (notesIn site machine rows entered)) stepped rows entered halves
+  Sends s = nextMarked site (marksOf site rows) (outHalf s) v ≡ orNone site w → Agrees site (passOn site (outHalf s) w w (notesIn site machine rows entered)) stepped rows entered halves
       → Agrees site (release site v (notesIn site machine rows entered)) stepped rows entered halves
 
   S-sends : Sends (site .S)
   unfolding release
-  S-sends is gives = record { place = gives .place; untried = gives .untried; answers = rw is (gives .answers) }
+  S-sends is gives =
+      record {
+        place = gives .place;
+        untried = gives .untried;
+        answers = rw is (passes-none site (outHalf (site .S)) (orNone site w) w w (notesIn site machine rows entered) (λ l. rw (lt-ltb w (site .n) l) refl) ∙ gives .answers);
+      }
 
   pub released : (s : ℕ) → site .S ≡ s → Sends s
   released s e = subst Sends e S-sends
@@ -134,15 +152,19 @@ module _ {plan : Plan} {place : ℕ} {task : Task} {machine : Machine} {links ro
   not-T : (machine .half ≡ 2 * task .t → ⊥) → eqb (machine .half) (inHalf (plan .site .T)) ≡ false
   not-T t = ne-eqb (machine .half) (inHalf (plan .site .T)) (λ e. t (e ∙ ap inHalf (ready .made .sink)))
 
-  pub carrying-passes : machine .stage ≡ Carrying → (machine .half ≡ 2 * task .t → ⊥) → machine .half % 2 ≡ 1 → (w : ℕ) → nextMarked (plan .site) (marksOf (plan .site) rows) (machine .half) 0 ≡ w → (stepped : Stepped)
+  pub carrying-passes : machine .stage ≡ Carrying → (machine .half ≡ 2 * task .t → ⊥) → machine .half % 2 ≡ 1 → (w : ℕ) → nextMarked (plan .site) (marksOf (plan .site) rows) (machine .half) 0 ≡ orNone (plan .site) w → (stepped : Stepped)
       → Agrees (plan .site) (passOn (plan .site) (machine .half) (machine .other) w Now) stepped rows entered halves → LeavesNext stepped rows entered halves
   unfolding innerStep carry
   carrying-passes e t out w is stepped gives =
       follows-at Carrying e stepped rows entered halves (ready .walks)
-      (record { place = gives .place; untried = gives .untried; answers = rw (not-T t, eq-eqb (machine .half % 2) 1 out, is) (gives .answers) })
+      (record {
+        place = gives .place;
+        untried = gives .untried;
+        answers = rw (not-T t, eq-eqb (machine .half % 2) 1 out, is) (passes-none (plan .site) (machine .half) (machine .other) (machine .other) w Now (λ l. refl) ∙ gives .answers);
+      })
 
   pub carrying-inside : machine .stage ≡ Carrying → (machine .half ≡ 2 * task .t → ⊥) → (machine .half % 2 ≡ 1 → ⊥) → (stepped : Stepped) (next : Machine) (left : ℕ)
-      → next ≡ movedTo machine Carrying (machine .half + 1) (machine .other) left 0 → stepped ≡ sentBy (message Done (machine .half) (machine .half + 1)) next → LeavesNext stepped rows entered halves
+      → next ≡ movedTo machine Carrying (machine .half + 1) (machine .other) left (machine .depth) → stepped ≡ sentBy (message Done (machine .half) (machine .half + 1)) next → LeavesNext stepped rows entered halves
   unfolding innerStep carry
   carrying-inside e t low stepped next left m s =
       follows-at Carrying e stepped rows entered halves (ready .walks)
@@ -169,9 +191,9 @@ module _ {plan : Plan} {place : ℕ} {task : Task} {machine : Machine} {links ro
     pub search-untried : Untried (plan .site) (marksOf (plan .site) rows) (machine .half) place (machine .left)
     search-untried = untried-in ready Searching e
 
-    pub searching-asks : (v : ℕ) → NextRadio plan (marksOf (plan .site) rows) (machine .half) place v → (stepped : Stepped) (y : ℕ) (there : Machine) (entered′ halves′ : List ℕ) → y ≡ across (machine .half) v
-        → Received (plan .site) machine y rows entered halves there entered′ halves′ → stepped ≡ sentBy (message Pdt (machine .half) y) there → LeavesNext stepped rows entered′ halves′
-    searching-asks v next stepped y there entered′ halves′ is received s =
+    pub searching-asks : (v : ℕ) → NextRadio plan (marksOf (plan .site) rows) (machine .half) place v → (stepped : Stepped) (y left : ℕ) (there : Machine) (entered′ halves′ : List ℕ) → y ≡ across (machine .half) v
+        → Received (plan .site) (withLeft machine left) y rows entered halves there entered′ halves′ → stepped ≡ sentBy (message Pdt (machine .half) y) there → LeavesNext stepped rows entered′ halves′
+    searching-asks v next stepped y left there entered′ halves′ is received s =
         follows-at Searching e stepped rows entered′ halves′ (ready .walks)
         (rw s
         (record {
@@ -220,12 +242,13 @@ module _ {plan : Plan} {place : ℕ} {task : Task} {machine : Machine} {links ro
       abbrev Turned : Marks → ℕ → Notes
       Turned marks found = record { round = machine .round; found = found; marks = marks; entered = enteredOf entered }
 
-      pub granting-wins : machine .depth ≡ 0 → stepped ≡ sentBy (message Pmt (machine .other) (machine .half)) (record { stage = Won; half = machine .half; other = machine .other; left = machine .left; depth = 0; round = machine .round; found = machine .found + 1 })
-          → LeavesNext stepped rows′ entered halves
+      pub granting-wins : (there : Machine) → machine .depth ≡ 0
+          → there ≡ record { stage = Won; half = machine .half; other = machine .other; left = machine .left; depth = machine .depth; round = machine .round; found = machine .found + 1 }
+          → stepped ≡ sentBy (message Pmt (machine .other) (machine .half)) there → LeavesNext stepped rows′ entered halves
       unfolding innerStep grant
-      granting-wins none s =
+      granting-wins there none m s =
           follows-at Granting e stepped rows′ entered halves walks′
-          (rw s
+          (rw (s, m)
           (record {
             place = 0;
             untried = tt;
@@ -259,10 +282,11 @@ pub record Carries (task : Task) (machine : Machine) : Type 0 where
   pub half : machine .half < 2 * task .n
 
 -- the half that owes PMT and the one that it owes it to
-pub record Grants (machine : Machine) : Type 0 where
+pub record Grants (machine : Machine) (halves : List ℕ) : Type 0 where
   pub half : machine .half < 2 * mostRadios
   pub other : machine .other < 2 * mostRadios
   pub deep : machine .depth < 2 * mostRadios
+  pub asker : (below : ℕ) → machine .depth ≡ suc below → getD halves below 0 < 2 * mostRadios
 
 -- the half that searches
 pub record Searches (task : Task) (machine : Machine) (halves : List ℕ) : Type 0 where
@@ -278,11 +302,15 @@ module _ {plan : Plan} {place : ℕ} {task : Task} {machine : Machine} {links ro
       let n = ready .made .radios in
       record { fits = ready .made .fits; radio = omega (arith, sane .1); half = omega (arith, sane .2) }
 
-  pub grants : machine .stage ≡ Granting → Grants machine
+  -- who asked the half on top is a half
+  asker-half : Top (plan .site) machine halves → (below : ℕ) → machine .depth ≡ suc below → getD halves below 0 < 2 * mostRadios
+  asker-half top below d = omega (arith, top .few, pair (plan .site) (getD halves below 0) (machine .half) (top .asker below d) .first)
+
+  pub grants : machine .stage ≡ Granting → Grants machine halves
   grants e =
       let top = grant-top ready e in
       let two = pair (plan .site) (machine .half) (machine .other) (grant-joined ready e) in
-      record { half = omega (arith, top .few, top .half); other = omega (arith, top .few, two .second); deep = top .deep }
+      record { half = omega (arith, top .few, top .half); other = omega (arith, top .few, two .second); deep = top .deep; asker = asker-half top }
 
   pub few-found : machine .stage ≡ Granting → machine .found < task .k
   few-found e = let k = ready .made .wanted in omega (arith, sane-in ready Granting e .0 .fewer)
@@ -295,7 +323,7 @@ module _ {plan : Plan} {place : ℕ} {task : Task} {machine : Machine} {links ro
         fits = ready .made .fits;
         half = omega (arith, top .half);
         deep = top .deep;
-        asker = λ below d. omega (arith, top .few, pair (plan .site) (getD halves below 0) (machine .half) (top .asker below d) .first);
+        asker = asker-half top;
       }
 
 -- what the half on top has left once it has asked radio v

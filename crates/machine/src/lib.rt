@@ -7,7 +7,7 @@ ghost use Rattle.site.specs.Limits.{mostRadios};
 ghost use Rattle.site.specs.Map.{Site};
 ghost use Rattle.tokens.specs.Rules.{Plan, message, waits, passOn, release};
 ghost use Rattle.openings.specs.Rows.{Open, Untried};
-ghost use Rattle.machine.specs.View.{isWon, marksOf, enteredOf, tried, waitingOf, notesIn, movedTo, withLeft, beginningAt};
+ghost use Rattle.machine.specs.View.{isWon, marksOf, enteredOf, tried, waitingOf, notesIn, movedTo, beginningAt};
 ghost use Rattle.machine.specs.Step.{Fits, Made, TopUntried, Agrees, Ready, Steps, Received, Rounds};
 use tokens::Answer;
 use tokens::Kind;
@@ -48,62 +48,19 @@ pub struct Stepped {
     pub machine: Machine,
 }
 
-// A byte's number.
-fn wide(byte: u8) -> usize
-    ensures { λ r. ⌜ r ≡ byte ⌝ }
-{
-    byte as usize
-}
-
-// The machine at another stage.
-fn moved(m: Machine, stage: Stage, half: usize, other: usize, left: u64, depth: usize) -> Machine
-    ensures { λ r. ⌜ r ≡ movedTo m stage half other left depth ⌝ }
+// The machine at another stage, with another half that owes a reply, or the radio that S sent DONE to.
+fn at(m: Machine, stage: Stage, other: usize) -> Machine
+    ensures { λ r. ⌜ r ≡ movedTo m stage (m .half) other (m .left) (m .depth) ⌝ }
 {
     Machine {
         stage,
-        half,
+        half: m.half,
         other,
-        left,
-        depth,
+        left: m.left,
+        depth: m.depth,
         round: m.round,
         found: m.found,
     }
-}
-
-// This half is on top and searches, with so many below it.
-fn searching(machine: Machine, half: usize, left: u64, depth: usize) -> Machine
-    ensures { λ r. ⌜ r ≡ movedTo machine Stage.Searching half (machine .other) left depth ⌝ }
-{
-    moved(machine, Stage::Searching, half, machine.other, left, depth)
-}
-
-// Half y owes a reply to the half on top, which has this left.
-fn owing(machine: Machine, stage: Stage, y: usize, left: u64) -> Machine
-    ensures { λ r. ⌜ r ≡ movedTo machine stage (machine .half) y left (machine .depth) ⌝ }
-{
-    moved(machine, stage, machine.half, y, left, machine.depth)
-}
-
-// DONE, which S sent to radio v, has come to this half.
-fn carrying(machine: Machine, v: usize, half: usize) -> Machine
-    ensures { λ r. ⌜ r ≡ movedTo machine Stage.Carrying half v (machine .left) 0 ⌝ }
-{
-    moved(machine, Stage::Carrying, half, v, machine.left, 0)
-}
-
-// The same machine, whose half on top has this left.
-pub fn with_left(machine: Machine, left: u64) -> Machine
-    ensures { λ r. ⌜ r ≡ withLeft machine left ⌝ }
-{
-    let stage = machine.stage;
-    moved(
-        machine,
-        stage,
-        machine.half,
-        machine.other,
-        left,
-        machine.depth,
-    )
 }
 
 // A round begins: S's out half searches.
@@ -149,7 +106,10 @@ fn pass_on(n: usize, machine: Machine, h: usize, v: usize, w: usize) -> Stepped
     ensures { λ r. ⌜ ((site : Site) (place : ℕ) (rows entered halves : List ℕ) → site .n ≡ n → TopUntried site place machine rows → Agrees site (passOn site h v w (notesIn site machine rows entered)) r rows entered halves) ⌝ }
 {
     if w < n {
-        return sent(Kind::Done, h, 2 * w, carrying(machine, v, 2 * w));
+        let mut there = machine;
+        there.half = 2 * w;
+        there.depth = 0;
+        return sent(Kind::Done, h, 2 * w, at(there, Stage::Carrying, v));
     }
     Stepped {
         answer: Answer::End,
@@ -162,7 +122,7 @@ fn releases(task: Task, machine: Machine, links: &[u64; 64], rows: &[u64; 128], 
     requires { ⌜ Fits task × (v ≤ task .n) ⌝ }
     ensures { λ r. ⌜ ((plan : Plan) (place : ℕ) (entered halves : List ℕ) → Made plan task (now (links .entry)) → Open (plan .site) (marksOf (plan .site) (now (rows .entry))) (now (rows .entry)) → TopUntried (plan .site) place machine (now (rows .entry)) → Agrees (plan .site) (release (plan .site) v (notesIn (plan .site) machine (now (rows .entry)) entered)) r (now (rows .entry)) entered halves) ⌝ }
 {
-    let w = openings::next_marked(task.n, task.s, links, rows, task.s, v);
+    let w = openings::next_marked(task.s, links, rows, task.s, v);
     pass_on(task.n, machine, 2 * task.s + 1, w, w)
 }
 
@@ -178,10 +138,12 @@ fn carries(task: Task, machine: Machine, links: &[u64; 64], rows: &[u64; 128]) -
         return releases(task, machine, links, rows, v + 1);
     }
     if h % 2 == 1 {
-        let w = openings::next_marked(task.n, task.s, links, rows, h / 2, 0);
+        let w = openings::next_marked(task.s, links, rows, h / 2, 0);
         return pass_on(task.n, machine, h, v, w);
     }
-    sent(Kind::Done, h, h + 1, carrying(machine, v, h + 1))
+    let mut there = machine;
+    there.half = h + 1;
+    sent(Kind::Done, h, h + 1, there)
 }
 
 // ---- rules 3 to 6, one function to a stage
@@ -191,48 +153,45 @@ fn receives(
     task: Task,
     machine: Machine,
     y: usize,
-    left: u64,
     rows: &[u64; 128],
     entered: &mut [u8; 128],
     halves: &mut [u8; 128],
 ) -> Machine
-    requires { ⌜ (task .t < mostRadios) × (y < 2 * mostRadios) × (machine .half < 2 * mostRadios) × (machine .depth < 2 * mostRadios) ⌝ }
-    ensures { λ r. ⌜ ((site : Site) → site .T ≡ task .t → Open site (marksOf site (now (rows .entry))) (now (rows .entry)) → Untried site (marksOf site (now (rows .entry))) (machine .half) (tried site (machine .half) y) left → Received site machine y (now (rows .entry)) (now (entered .entry)) (now (halves .entry)) r (now (entered .exit)) (now (halves .exit))) ⌝ }
+    requires { ⌜ (task .t < mostRadios) × (y < 2 * mostRadios) × (machine .half < 2 * mostRadios) × (machine .depth < 2 * mostRadios) × (machine .stage ≡ Stage.Searching) ⌝ }
+    ensures { λ r. ⌜ ((site : Site) → site .T ≡ task .t → Open site (marksOf site (now (rows .entry))) (now (rows .entry)) → Untried site (marksOf site (now (rows .entry))) (machine .half) (tried site (machine .half) y) (machine .left) → Received site machine y (now (rows .entry)) (now (entered .entry)) (now (halves .entry)) r (now (entered .exit)) (now (halves .exit))) ⌝ }
 {
     if y == 2 * task.t {
         halves::enter(entered, y);
-        return owing(machine, Stage::Granting, y, left);
+        return at(machine, Stage::Granting, y);
     }
     if halves::is_entered(entered, y) {
-        return owing(machine, Stage::Declining, y, left);
+        return at(machine, Stage::Declining, y);
     }
     halves::enter(entered, y);
     push(halves, machine.depth, machine.half);
-    searching(machine, y, rows[y], machine.depth + 1)
+    let mut there = machine;
+    there.half = y;
+    there.left = rows[y];
+    there.depth = machine.depth + 1;
+    there
 }
 
-// The half on top has nothing left to try: it replies PDT_B to the half that asked it, or is S, whose round has failed.
-fn gives_up(
-    task: Task,
-    machine: Machine,
-    links: &[u64; 64],
-    rows: &[u64; 128],
-    halves: &[u8; 128],
-) -> Stepped
-    requires { ⌜ (machine .stage ≡ Stage.Searching) × (machine .left ≡ 0) × ((plan : Plan) × (place : ℕ) × (entered : List ℕ) × Ready plan place task machine (now links) (now rows) entered (now halves)) ⌝ }
-    ensures { λ r. ⌜ ((entered : List ℕ) → Steps task machine (now (links .entry)) (now (rows .entry)) entered (now (halves .entry)) r (now (rows .entry)) entered (now (halves .entry))) ⌝ }
+// The half on top has nothing left to try, and replies PDT_B to the half that asked it.
+fn gives_up(machine: Machine, rows: &[u64; 128], halves: &[u8; 128]) -> Stepped
+    requires { ⌜ (machine .stage ≡ Stage.Searching) × (machine .left ≡ 0) × (0 < machine .depth) × ((plan : Plan) × (place : ℕ) × (task : Task) × (links : List ℕ) × (entered : List ℕ) × Ready plan place task machine links (now rows) entered (now halves)) ⌝ }
+    ensures { λ r. ⌜ ((task : Task) (links entered : List ℕ) → Steps task machine links (now (rows .entry)) entered (now (halves .entry)) r (now (rows .entry)) entered (now (halves .entry))) ⌝ }
 {
-    if machine.depth == 0 {
-        return releases(task, machine, links, rows, 0);
-    }
     let h = machine.half;
     let below = machine.depth - 1;
-    let asker = wide(halves[below]);
-    let left = openings::after(rows[asker], asker, h / 2);
-    sent(Kind::PdtB, h, asker, searching(machine, asker, left, below))
+    let asker = halves[below] as usize;
+    let mut there = machine;
+    there.half = asker;
+    there.left = openings::after(rows[asker], asker, h / 2);
+    there.depth = below;
+    sent(Kind::PdtB, h, asker, there)
 }
 
-// The half on top asks the next that it can.
+// The half on top asks the next that it can. Where it has nothing left to try it gives up, or is S, whose round has failed.
 fn searches(
     task: Task,
     machine: Machine,
@@ -246,18 +205,17 @@ fn searches(
     ensures { λ r. ⌜ (r .answer ≡ Answer.End → enteredOf (now (entered .exit)) ≡ enteredOf (now (entered .entry))) ⌝ }
 {
     if radios::is_empty(machine.left) {
-        return gives_up(task, machine, links, rows, halves);
+        if machine.depth == 0 {
+            return releases(task, machine, links, rows, 0);
+        }
+        return gives_up(machine, rows, halves);
     }
     let h = machine.half;
-    let v = openings::next(machine.left, h);
-    let y = openings::half_across(h, v);
-    let left = radios::without(machine.left, v);
-    sent(
-        Kind::Pdt,
-        h,
-        y,
-        receives(task, machine, y, left, rows, entered, halves),
-    )
+    let y = openings::next(machine.left, h);
+    let mut asking = machine;
+    asking.left = radios::without(machine.left, y / 2);
+    let there = receives(task, asking, y, rows, entered, halves);
+    sent(Kind::Pdt, h, y, there)
 }
 
 // The half that was asked, and entered before, replies PDT_B to the half on top.
@@ -265,7 +223,7 @@ fn declines(machine: Machine) -> Stepped
     requires { ⌜ machine .stage ≡ Stage.Declining ⌝ }
     ensures { λ r. ⌜ ((task : Task) (links rows entered halves : List ℕ) → Steps task machine links rows entered halves r rows entered halves) ⌝ }
 {
-    let on_top = searching(machine, machine.half, machine.left, machine.depth);
+    let on_top = at(machine, Stage::Searching, machine.other);
     sent(Kind::PdtB, machine.other, machine.half, on_top)
 }
 
@@ -278,22 +236,16 @@ fn grants(machine: Machine, rows: &mut [u64; 128], halves: &[u8; 128]) -> Steppe
     let h = machine.half;
     let y = machine.other;
     openings::turn(rows, h, y);
+    let mut there = machine;
     if machine.depth == 0 {
-        let won = Machine {
-            stage: Stage::Won,
-            half: h,
-            other: y,
-            left: machine.left,
-            depth: 0,
-            round: machine.round,
-            found: machine.found + 1,
-        };
-        return sent(Kind::Pmt, y, h, won);
+        there.found = machine.found + 1;
+        return sent(Kind::Pmt, y, h, at(there, Stage::Won, y));
     }
     let below = machine.depth - 1;
-    let asker = wide(halves[below]);
-    let on_top = moved(machine, Stage::Granting, asker, h, machine.left, below);
-    sent(Kind::Pmt, y, h, on_top)
+    there.half = halves[below] as usize;
+    there.other = h;
+    there.depth = below;
+    sent(Kind::Pmt, y, h, there)
 }
 
 // ---- rule 1

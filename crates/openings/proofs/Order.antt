@@ -265,14 +265,17 @@ module _ (site : Site) (marks : Marks) (u : ℕ) (nt : u ≡ site .T → ⊥) (r
       go false b false e d = sym (not-true→false _ (λ t. clash (on _ _ t) e))
 
   module _ (set v r : ℕ) (few : site .n ≤ 64) (start : v ≤ site .n) (is-set : (w : ℕ) → member w set ≡ marks (outHalf u) (inHalf w)) (first : First (λ w. member w set) v 64 r) where
-    pub marked-next : r < site .n → nextMarked site marks (outHalf u) v ≡ r
+    -- r is it, or no radio of the map: then there is none
+    pub marked-next : nextMarked site marks (outHalf u) v ≡ cond (ltb r (site .n)) r (site .n)
     unfolding nextMarked
-    marked-next l =
-        first-is (λ w. marks (outHalf u) (inHalf w)) v (site .n) r start
-        (record { from = first .from; within = omega arith; before = λ j p q. sym (is-set j) ∙ first .before j p q; found = λ q. sym (is-set r) ∙ first .found (omega arith) })
-
-    pub marked-none : (r < site .n → ⊥) → nextMarked site marks (outHalf u) v ≡ site .n
-    unfolding nextMarked
-    marked-none l =
-        first-is (λ w. marks (outHalf u) (inHalf w)) v (site .n) (site .n) start
-        (record { from = start; within = omega arith; before = λ j p q. sym (is-set j) ∙ first .before j p (omega arith); found = λ q. absurd (omega arith) })
+    marked-next = pick (decLt r (site .n))
+      where
+        pick : Dec (r < site .n) → nextMarked site marks (outHalf u) v ≡ cond (ltb r (site .n)) r (site .n)
+        pick (yes l) =
+            rw (lt-ltb r (site .n) l)
+            (first-is (λ w. marks (outHalf u) (inHalf w)) v (site .n) r start
+            (record { from = first .from; within = omega arith; before = λ j p q. sym (is-set j) ∙ first .before j p q; found = λ q. sym (is-set r) ∙ first .found (omega arith) }))
+        pick (no l) =
+            rw (le-ltb r (site .n) (omega arith))
+            (first-is (λ w. marks (outHalf u) (inHalf w)) v (site .n) (site .n) start
+            (record { from = start; within = omega arith; before = λ j p q. sym (is-set j) ∙ first .before j p (omega arith); found = λ q. absurd (omega arith) }))

@@ -3,12 +3,13 @@ use mathlib.Core.Path.{_≡_}
 use mathlib.Core.Bool.{true, not, cond, _&&_}
 use mathlib.Core.List.{List}
 use mathlib.Core.Logic.{_⊎_}
-use Prim.Native.Nat.{ℕ, _<_}
+use Prim.Native.Nat.{ℕ, _*_, _<_}
 use lib.Dec.{eqb, leb}
 use lib.ListN.{getD}
 use Rattle.radios.specs.Member.{member}
+use Rattle.site.specs.Limits.{mostRadios}
 use Rattle.site.specs.Map.{Site, inHalf, outHalf, radioOf, isOut, step}
-use Rattle.tokens.specs.Rules.{Plan, Marks, mayWalk, nextPlace}
+use Rattle.tokens.specs.Rules.{Plan, Marks, mayWalk, rising, nextPlace}
 
 -- ---- the rows
 
@@ -39,6 +40,12 @@ pub record NextRadio (plan : Plan) (marks : Marks) (h place r : ℕ) : Type 0 wh
   pub found : nextPlace plan marks h place ≡ placeInOrder (plan .site) h r
   pub below : r < plan .site .n
   pub walks : mayWalk (plan .site) marks h (across h r) ≡ true
+
+-- half h, which has these radios left by rising numbers, tries half y next
+pub record NextHalf (left h y : ℕ) : Type 0 where
+  pub few : y < 2 * mostRadios
+  pub across-it : y ≡ across h (radioOf y)
+  pub next : (plan : Plan) (marks : Marks) (place : ℕ) → plan .order ≡ rising → h < 2 * plan .site .n → Untried (plan .site) marks h place left → NextRadio plan marks h place (radioOf y)
 
 -- ---- what is leant on
 

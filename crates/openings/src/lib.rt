@@ -3,13 +3,13 @@ ghost use mathlib.Core.Path.{_≡_};
 ghost use mathlib.Core.Bool.{not, cond, _&&_};
 ghost use mathlib.Core.List.{List};
 ghost use Prim.Native.Nat.{ℕ, suc, _+_, _*_, _/_, _≤_, _<_};
-ghost use lib.Dec.{eqb};
+ghost use lib.Dec.{eqb, ltb};
 ghost use lib.ListN.{getD, replicate};
 ghost use Rattle.radios.specs.Member.{member};
 ghost use Rattle.site.specs.Limits.{mostRadios};
-ghost use Rattle.site.specs.Map.{Site, inHalf, outHalf, step, passes};
+ghost use Rattle.site.specs.Map.{Site, inHalf, outHalf, radioOf, step, passes};
 ghost use Rattle.tokens.specs.Rules.{Plan, Marks, mayWalk, rising, unmarked, reversed, nextMarked};
-ghost use Rattle.openings.specs.Rows.{across, Open, Joined, OnSteps, Untried, NextRadio, placeInOrder};
+ghost use Rattle.openings.specs.Rows.{across, Open, Joined, OnSteps, Untried, NextHalf, placeInOrder};
 ghost use Rattle.radios.specs.Links.{RowsOfLinks};
 
 // ---- the start: nothing is marked
@@ -19,10 +19,7 @@ fn inside(s: usize, t: usize, u: usize) -> u64
     requires { ⌜ u < mostRadios ⌝ }
     ensures { λ r. ⌜ ((site : Site) (v : ℕ) → u < site .n → site .S ≡ s → site .T ≡ t → member v r ≡ (eqb v u && passes site u)) ⌝ }
 {
-    if u == s {
-        return 0;
-    }
-    if u == t {
+    if u == s || u == t {
         return 0;
     }
     radios::with(0, u)
@@ -74,27 +71,26 @@ pub fn turn(rows: &mut [u64; 128], h: usize, y: usize)
 // ---- rule 3: what a half tries next, and what is left then
 
 // The half that radio v stands for in half h's row.
-pub fn half_across(h: usize, v: usize) -> usize
+fn half_across(h: usize, v: usize) -> usize
     requires { ⌜ v < mostRadios ⌝ }
     ensures { λ r. ⌜ r ≡ across h v ⌝ }
 {
-    if h % 2 == 1 {
-        return 2 * v;
-    }
-    2 * v + 1
+    2 * v + 1 - h % 2
 }
 
-// The radio that half h tries next, of those it has left: the first of the others, its own last.
+// The half that half h tries next, of those it has left: the first of the others, its own other half last.
 pub fn next(left: u64, h: usize) -> usize
     requires { ⌜ (h < 2 * mostRadios) × (left ≡ 0 → ⊥) ⌝ }
-    ensures { λ r. ⌜ (r < mostRadios) × ((plan : Plan) (marks : Marks) (place : ℕ) → plan .order ≡ rising → plan .site .n ≤ mostRadios → h < 2 * plan .site .n → Untried (plan .site) marks h place left → NextRadio plan marks h place r) ⌝ }
+    ensures { λ r. ⌜ NextHalf left h r ⌝ }
 {
-    let u = h / 2;
-    let others = radios::without(left, u);
+    let others = radios::without(left, h / 2);
     if radios::is_empty(others) {
-        return u;
+        if h % 2 == 1 {
+            return h - 1;
+        }
+        return h + 1;
     }
-    radios::first(others)
+    half_across(h, radios::first(others))
 }
 
 // What is left of half h's row once radio v has been tried.
@@ -113,29 +109,11 @@ pub fn after(row: u64, h: usize, v: usize) -> u64
 
 // ---- rule 7: the marked steps
 
-// The radios with a marked step from radio u's out half, where u is not T.
-fn marked_from(s: usize, links: &[u64; 64], rows: &[u64; 128], u: usize) -> u64
-    requires { ⌜ (s < mostRadios) × (u < mostRadios) ⌝ }
-    ensures { λ r. ⌜ ((site : Site) (marks : Marks) (w : ℕ) → site .S ≡ s → (u ≡ site .T → ⊥) → RowsOfLinks (site .table) (site .n) (now (links .entry)) → OnSteps site marks → Open site marks (now (rows .entry)) → member w r ≡ marks (outHalf u) (inHalf w)) ⌝ }
+// The first radio from v on with a marked step from radio u's out half, where u is not T; 64 where there is none.
+pub fn next_marked(s: usize, links: &[u64; 64], rows: &[u64; 128], u: usize, v: usize) -> usize
+    requires { ⌜ (s < mostRadios) × (u < mostRadios) × (v ≤ mostRadios) ⌝ }
+    ensures { λ r. ⌜ ((site : Site) (marks : Marks) → site .n ≤ mostRadios → v ≤ site .n → site .S ≡ s → (u ≡ site .T → ⊥) → RowsOfLinks (site .table) (site .n) (now (links .entry)) → OnSteps site marks → Open site marks (now (rows .entry)) → nextMarked site marks (outHalf u) v ≡ cond (ltb r (site .n)) r (site .n)) ⌝ }
 {
-    radios::without(radios::and_not(links[u], rows[2 * u + 1]), s)
-}
-
-// The first radio from v on with a marked step from radio u's out half; n where there is none.
-pub fn next_marked(
-    n: usize,
-    s: usize,
-    links: &[u64; 64],
-    rows: &[u64; 128],
-    u: usize,
-    v: usize,
-) -> usize
-    requires { ⌜ (n ≤ mostRadios) × (s < mostRadios) × (u < mostRadios) × (v ≤ n) ⌝ }
-    ensures { λ r. ⌜ ((site : Site) (marks : Marks) → site .n ≡ n → site .S ≡ s → (u ≡ site .T → ⊥) → RowsOfLinks (site .table) (site .n) (now (links .entry)) → OnSteps site marks → Open site marks (now (rows .entry)) → nextMarked site marks (outHalf u) v ≡ r) ⌝ }
-{
-    let w = radios::first_from(marked_from(s, links, rows, u), v);
-    if w < n {
-        return w;
-    }
-    n
+    let marked = radios::without(radios::and_not(links[u], rows[2 * u + 1]), s);
+    radios::first_from(marked, v)
 }

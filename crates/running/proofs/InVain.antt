@@ -120,8 +120,8 @@ module _ (task : Task) (budget : ℕ) (entered bytes : List ℕ) (machine : Mach
         let next = next-other plan (marksOf (plan .site) rows) (machine .half) place Before (ready .made .order) (top .half) all others is-others v first fits in
         let is : inHalf v ≡ across (machine .half) v = sym (from-out u v) ∙ ap (λ (h : ℕ). across h v) (sym is-u) in
         let not-T : inHalf v ≡ inHalf (plan .site .T) → ⊥ = λ e. clash came (ap (enteredOf entered) e ∙ sane-in ready Searching searching .T-new) in
-        searching-asks ready searching v next (sentBy (message Pdt (machine .half) (inHalf v)) Declined) (inHalf v) Declined entered halves is
-        (entered-receives (plan .site) (withLeft machine Before) Declined (inHalf v) After rows entered entered halves not-T came
+        searching-asks ready searching v next (sentBy (message Pdt (machine .half) (inHalf v)) Declined) (inHalf v) After Declined entered halves is
+        (entered-receives (plan .site) (withLeft machine After) Declined (inHalf v) rows entered entered halves not-T came
         (untried-once-asked plan (marksOf (plan .site) rows) (machine .half) place v Before (inHalf v) After (ready .made .order) (top .half) all next is gone) refl)
         refl
 

@@ -30,45 +30,29 @@ struct Vain {
 
 // An out half on top asks those next in its order that were entered before: each PDT gets its PDT_B at once. These are inner
 // steps of the rules, two at a time, sent without going through the stages. Room for all of them is asked for once, before.
-fn asks_in_vain(
-    machine: Machine,
-    budget: usize,
-    sent: usize,
-    entered: &[u8; 128],
-    log: &mut [u8],
-) -> Vain
-    requires { ⌜ Asks machine budget sent (now log) ⌝ }
-    ensures { λ r. ⌜ ((task : Task) → Onward task budget (now (entered .entry)) (now (log .entry)) machine sent (now (log .exit)) (withLeft machine (r .left)) (r .sent)) ⌝ }
+fn asks_in_vain(m: Machine, budget: usize, sent: usize, entered: &[u8; 128], log: &mut [u8]) -> Vain
+    requires { ⌜ Asks m budget sent (now log) ⌝ }
+    ensures { λ r. ⌜ ((task : Task) → Onward task budget (now (entered .entry)) (now (log .entry)) m sent (now (log .exit)) (withLeft m (r .left)) (r .sent)) ⌝ }
 {
-    let stage = machine.stage;
+    let none = Vain { left: m.left, sent };
+    let stage = m.stage;
     let Stage::Searching = stage else {
-        return Vain {
-            left: machine.left,
-            sent,
-        };
+        return none;
     };
-    let h = machine.half;
+    let h = m.half;
     if h % 2 == 0 || sent + site::MOST_HALVES >= budget {
-        return Vain {
-            left: machine.left,
-            sent,
-        };
+        return none;
     }
-    let mut others = radios::without(machine.left, h / 2);
-    let own = radios::and_not(machine.left, others);
+    let mut others = radios::without(m.left, h / 2);
+    let own = radios::and_not(m.left, others);
     let mut at = sent;
     while !radios::is_empty(others) {
         let v = radios::first(others);
         if !halves::is_entered(entered, 2 * v) {
             break;
         }
-        log::put(log, at, tokens::telling(Kind::Pdt, h, 2 * v), machine.round);
-        log::put(
-            log,
-            at + 1,
-            tokens::telling(Kind::PdtB, 2 * v, h),
-            machine.round,
-        );
+        log::put(log, at, tokens::telling(Kind::Pdt, h, 2 * v), m.round);
+        log::put(log, at + 1, tokens::telling(Kind::PdtB, 2 * v, h), m.round);
         others = radios::without_first(others, v);
         at += 2;
     }
@@ -99,16 +83,15 @@ fn run_on(
     let mut sent = 0;
     while sent < budget {
         let vain = asks_in_vain(machine, budget, sent, entered, log);
-        machine = machine::with_left(machine, vain.left);
+        machine.left = vain.left;
         sent = vain.sent;
         let stepped = machine::step(task, machine, links, rows, entered, halves);
         let answer = stepped.answer;
         let Answer::Sent(message) = answer else {
             break;
         };
-        let next = stepped.machine;
-        log::put(log, sent, message, next.round);
-        machine = next;
+        machine = stepped.machine;
+        log::put(log, sent, message, machine.round);
         sent += 1;
     }
     Ran {

@@ -1,12 +1,13 @@
 -- `machine::carries` meets its contract. Assumes nothing.
 use mathlib.Core.Path.{_≡_, sym, ap, _∙_}
-use Prim.Native.Nat.{ℕ, _/_}
+use Prim.Native.Nat.{ℕ, _+_, _/_}
 use native.Mathlib.Omega.{arith}
 use Rattle.site.specs.Map.{outHalf}
 use Rattle.tokens.specs.Rules.{nextMarked}
 use Rattle.openings.proofs.Turns.{on-told}
+use Rattle.machine.specs.declared.Stage.{Stage}
 use Rattle.machine.specs.declared.Stage.the-variants.{Carrying}
-use Rattle.machine.specs.View.{marksOf}
+use Rattle.machine.specs.View.{movedTo, marksOf}
 use Rattle.machine.proofs.Stages.{sane-in}
 use Rattle.machine.proofs.Replies.{carrying-releases, carrying-passes, carrying-inside, Carries, carries}
 use Rattle.machine.proofs.carries.Statement.{statement}
@@ -44,16 +45,21 @@ returns-2 c = λ entered halves plan place ready.
     let next = past tie.After-next-marked (search) .next-marked in
     carrying-passes ready (start .pre .0) (past tie.Else1 (search) .if1 .left) out (next .result)
     (ap (λ (h : ℕ). nextMarked site (marksOf site (at .rows .now)) h 0) (sym is)
-    ∙ next .ensures site (marksOf site (at .rows .now)) (ready .made .radios) (ready .made .source) (λ e. sane .3 (omega arith)) (ready .made .linked) (on-told site (at .rows .now)) (ready .walks))
+    ∙ next .ensures site (marksOf site (at .rows .now)) (omega (arith, ready .made .radios, ready .made .fits .few)) (omega arith) (ready .made .source) (λ e. sane .3 (omega arith)) (ready .made .linked) (on-told site (at .rows .now)) (ready .walks))
     (c .pass-on .result) (c .pass-on .ensures site place (at .rows .now) entered halves (ready .made .radios) (ready .untried))
+
+add-there : tie.Need-add-there
+add-there c = let f = facts (past tie.Start (search)) in omega (arith, f .fits .few)
 
 add-sent : tie.Need-add-sent
 add-sent c = let f = facts (past tie.Start (search)) in omega (arith, f .fits .few)
 
 returns-3 : tie.Need-returns-3
 returns-3 c = λ entered halves plan place ready.
-    let there = past tie.After-carrying (search) .carrying in
-    carrying-inside ready (past tie.Start (search) .pre .0) (past tie.Else1 (search) .if1 .left) (past tie.Else2 (search) .if2 .left) (c .sent .result) (there .result) _ (there .ensures) (c .sent .ensures)
+    let start = past tie.Start (search) in
+    let m = start .args .machine in
+    carrying-inside ready (start .pre .0) (past tie.Else1 (search) .if1 .left) (past tie.Else2 (search) .if2 .left) (c .sent .result) _ (m .left)
+    (ap (λ (s : Stage). movedTo m s (m .half + 1) (m .other) (m .left) (m .depth)) (start .pre .0)) (c .sent .ensures)
 
 pub carries-spec : {M : Type 1} → statement M
 carries-spec =
@@ -66,8 +72,7 @@ carries-spec =
     next-marked-requires
     (λ c κs. let f = facts (past tie.Start (search)) in f .fits .few)
     returns-2
+    add-there
     add-sent
-    add-sent
-    (λ c κs. tt)
     (λ c κs. tt)
     returns-3)

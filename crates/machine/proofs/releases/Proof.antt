@@ -17,7 +17,7 @@ returns c =
     λ plan place entered halves made walks untried.
     let site = plan .site in
     released site (at .machine) (c .pass-on .result) (at .rows .now) entered halves (at .v) (next .result) (at .task .s) (made .source)
-    (next .ensures site (marksOf site (at .rows .now)) (made .radios) (made .source) (λ e. made .fits .differ (e ∙ made .sink)) (made .linked) (on-told site (at .rows .now)) walks)
+    (next .ensures site (marksOf site (at .rows .now)) (omega (arith, made .radios, made .fits .few)) (omega (arith, made .radios, past tie.Start (search) .pre .1)) (made .source) (λ e. made .fits .differ (e ∙ made .sink)) (made .linked) (on-told site (at .rows .now)) walks)
     (c .pass-on .ensures site place (at .rows .now) entered halves (made .radios) untried)
 
 pub releases-spec : {M : Type 1} → statement M

@@ -1,14 +1,10 @@
 -- `machine::searches` meets its contract. Assumes nothing.
 use mathlib.Core.Path.{_≡_, refl, sym, _∙_}
-use Prim.Native.Nat.{ℕ}
 use native.Mathlib.Omega.{arith}
 use borrow.Author.Tests.{eqb-true, eqb-false}
-use Rattle.tokens.specs.Rules.{Plan}
-use Rattle.openings.specs.Rows.{NextRadio}
-use Rattle.openings.proofs.Walks.{across-radio}
+use Rattle.openings.specs.Rows.{NextHalf}
 use Rattle.machine.specs.View.{marksOf}
-use Rattle.machine.specs.Step.{Ready}
-use Rattle.machine.proofs.Replies.{Searches, searches, search-top, search-untried, untried-once-asked, searching-asks, sent-goes-on}
+use Rattle.machine.proofs.Replies.{Searches, searches, search-top, search-untried, untried-once-asked, searching-asks, searching-fails, sent-goes-on}
 use Rattle.machine.proofs.searches.Statement.{statement}
 use Rattle.machine.proofs.searches.Tie as tie
 
@@ -19,13 +15,9 @@ past P p = p
 facts : (c : tie.Start) → Searches (c .args .task) (c .args .machine) (c .args .halves .now)
 facts c = searches (c .pre .1 .2) (c .pre .0)
 
--- the radio that is tried next
-next-is : (c : tie.After-next) (plan : Plan) (place : ℕ) → let at = past tie.Start (search) .args in Ready plan place (at .task) (at .machine) (at .links .now) (at .rows .now) (at .entered .now) (at .halves .now)
-    → NextRadio plan (marksOf (plan .site) (at .rows .now)) (at .machine .half) place (c .next .result)
-next-is c plan place ready =
-    let start = past tie.Start (search) in
-    let top = search-top ready (start .pre .0) in
-    c .next .ensures .1 plan (marksOf (plan .site) (start .args .rows .now)) place (ready .made .order) (top .few) (top .half) (search-untried ready (start .pre .0))
+-- the half that is asked
+asked : (c : tie.After-next) → let at = past tie.Start (search) .args in NextHalf (at .machine .left) (at .machine .half) (c .next .result)
+asked c = c .next .ensures
 
 -- is nothing left?
 left-none : (c : tie.Then1) → past tie.Start (search) .args .machine .left ≡ 0
@@ -34,13 +26,26 @@ left-none c = eqb-true _ _ (sym (past tie.After-is-empty (search) .is-empty .ens
 left-some : (c : tie.Else1) → past tie.Start (search) .args .machine .left ≡ 0 → ⊥
 left-some c = eqb-false _ _ (sym (past tie.After-is-empty (search) .is-empty .ensures) ∙ c .if1 .left)
 
+releases-requires : tie.Need-releases-requires
+releases-requires c κs = let f = facts (past tie.Start (search)) in (f .fits, omega arith)
+
+returns : tie.Need-returns
+returns c = (
+  λ plan place ready.
+      let start = past tie.Start (search) in
+      searching-fails ready (start .pre .0) (left-none (search)) (c .releases .result) (past tie.Then2 (search) .if2 .taken)
+      (c .releases .ensures plan place (start .args .entered .now) (start .args .halves .now) (ready .made) (ready .walks) (ready .untried)),
+  λ e. refl,
+)
+
 gives-up-requires : tie.Need-gives-up-requires
 gives-up-requires c κs =
     let start = past tie.Start (search) in
-    (start .pre .0, left-none (search), (start .pre .1 .0, start .pre .1 .1, start .args .entered .now, start .pre .1 .2))
+    let some = past tie.Else2 (search) .if2 .left in
+    (start .pre .0, left-none (search), omega arith, (start .pre .1 .0, start .pre .1 .1, start .args .task, start .args .links .now, start .args .entered .now, start .pre .1 .2))
 
-returns : tie.Need-returns
-returns c = let start = past tie.Start (search) in (c .gives-up .ensures (start .args .entered .now), λ e. refl)
+returns-2 : tie.Need-returns-2
+returns-2 c = let at = past tie.Start (search) .args in (c .gives-up .ensures (at .task) (at .links .now) (at .entered .now), λ e. refl)
 
 next-requires : tie.Need-next-requires
 next-requires c κs =
@@ -49,24 +54,26 @@ next-requires c κs =
 
 receives-requires : tie.Need-receives-requires
 receives-requires c κs =
-    let f = facts (past tie.Start (search)) in
-    let across = past tie.After-half-across (search) .half-across in
-    let next = past tie.After-next (search) .next in
-    omega (arith, f .fits, f .half, f .deep, across .ensures, next .ensures .0, across-radio (past tie.Start (search) .args .machine .half) (next .result))
+    let start = past tie.Start (search) in
+    let f = facts start in
+    let few = asked (search) .few in
+    (omega (arith, f .fits), few, omega (arith, f .fits .few, f .half), f .deep, start .pre .0)
 
-returns-2 : tie.Need-returns-2
-returns-2 c = (
+returns-3 : tie.Need-returns-3
+returns-3 c = (
   λ plan place ready.
       let start = past tie.Start (search) in
       let at = start .args in
       let marks = marksOf (plan .site) (at .rows .now) in
-      let next = next-is (search) plan place ready in
-      let across = past tie.After-half-across (search) .half-across in
+      let y = past tie.After-next (search) .next .result in
+      let across = asked (search) .across-it in
       let there = past tie.After-receives (search) .receives in
       let top = search-top ready (start .pre .0) in
-      searching-asks ready (start .pre .0) _ next (c .sent .result) (across .result) (there .result) (there .last .1 .1 .1 .1 .1 .0) (there .last .1 .1 .1 .1 .1 .1 .0) (across .ensures)
+      let untried = search-untried ready (start .pre .0) in
+      let next = asked (search) .next plan marks place (ready .made .order) (top .half) untried in
+      searching-asks ready (start .pre .0) _ next (c .sent .result) y (past tie.After-without (search) .without .result) (there .result) (there .last .1 .1 .1 .1 .0) (there .last .1 .1 .1 .1 .1 .0) across
       (there .ensures (plan .site) (ready .made .sink) (ready .walks)
-      (untried-once-asked plan marks (at .machine .half) place _ (at .machine .left) (across .result) _ (ready .made .order) (top .half) (search-untried ready (start .pre .0)) next (across .ensures) (past tie.After-without (search) .without .ensures)))
+      (untried-once-asked plan marks (at .machine .half) place _ (at .machine .left) y _ (ready .made .order) (top .half) untried next across (past tie.After-without (search) .without .ensures)))
       (c .sent .ensures),
   λ e. absurd (sent-goes-on (c .sent .result) _ _ (c .sent .ensures) e),
 )
@@ -76,11 +83,12 @@ searches-spec =
     tie.close
     (tie.spec
     (λ c κs. tt)
-    gives-up-requires
+    releases-requires
     returns
+    gives-up-requires
+    returns-2
     next-requires
-    (λ c κs. past tie.After-next (search) .next .ensures .0)
-    (λ c κs. past tie.After-next (search) .next .ensures .0)
+    (λ c κs. let few = asked (search) .few in omega arith)
     receives-requires
     (λ c κs. tt)
-    returns-2)
+    returns-3)

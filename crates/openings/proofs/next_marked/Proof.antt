@@ -1,8 +1,11 @@
 -- `openings::next_marked` meets its contract. Assumes nothing.
-use mathlib.Core.Path.{_∙_}
+use mathlib.Core.Path.{_≡_, ap, _∙_}
+use mathlib.Core.Bool.{Bool, not, _&&_}
+use Prim.Native.Nat.{ℕ}
 use native.Mathlib.Omega.{arith}
+use lib.Dec.{eqb}
 use borrow.Author.Needs.{needs}
-use Rattle.openings.proofs.Order.{marked-next, marked-none}
+use Rattle.openings.proofs.Order.{marked-is, marked-next}
 use Rattle.openings.proofs.next_marked.Statement.{statement}
 use Rattle.openings.proofs.next_marked.Tie as tie
 
@@ -10,17 +13,14 @@ abbrev past : (P : Type 0) → P → P
 past P p = p
 
 returns : tie.Need-returns
-returns c = λ site marks radios source nt links on now.
+returns c = λ site marks few start source nt links on now.
     let at = past tie.Start (search) .args in
-    marked-next site marks (at .u) nt (at .rows .now) on now _ _ _ (omega arith) (omega arith) (λ w. past tie.After-marked-from (search) .marked-from .ensures site marks w source nt links on now)
-    (past tie.After-first-from (search) .first-from .ensures) (omega arith)
-
-returns-2 : tie.Need-returns-2
-returns-2 c = λ site marks radios source nt links on now.
-    let at = past tie.Start (search) .args in
-    marked-none site marks (at .u) nt (at .rows .now) on now _ _ _ (omega arith) (omega arith) (λ w. past tie.After-marked-from (search) .marked-from .ensures site marks w source nt links on now)
-    (past tie.After-first-from (search) .first-from .ensures) (λ l. omega arith)
-    ∙ radios
+    let less = past tie.After-and-not (search) .and-not .ensures in
+    marked-next site marks (at .u) nt (at .rows .now) on now _ _ _ few start
+    (λ w. past tie.After-without (search) .without .ensures w ∙ ap (λ (b : Bool). not (eqb w (at .s)) && b) (less w) ∙ marked-is site marks (at .u) nt (at .rows .now) on now (at .s) (at .links .now) source links w)
+    (c .first-from .ensures)
 
 pub next-marked-spec : {M : Type 1} → statement M
-next-marked-spec = tie.close (tie.spec (λ c κs. search needs) (λ c κs. search needs) returns returns-2)
+next-marked-spec =
+    tie.close
+    (tie.spec (λ c. omega arith) (λ c. omega arith) (λ c. omega arith) (λ c. omega arith) (λ c. omega arith) (λ c. omega arith) (λ c κs. search needs) (λ c κs. search needs) (λ c κs. search needs) returns)

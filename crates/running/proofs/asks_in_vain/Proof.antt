@@ -29,10 +29,10 @@ past P p = p
 
 -- nothing is sent
 abbrev Stays : tie.Start Inv-loop μ-loop → Type 0
-Stays c = let at = c .args in (task : Task) → Onward task (at .budget) (at .entered .now) (at .log .now) (at .machine) (at .sent) (at .log .now) (withLeft (at .machine) (at .machine .left)) (at .sent)
+Stays c = let at = c .args in (task : Task) → Onward task (at .budget) (at .entered .now) (at .log .now) (at .m) (at .sent) (at .log .now) (withLeft (at .m) (at .m .left)) (at .sent)
 
 stays : (c : tie.Start Inv-loop μ-loop) → Stays c
-stays c = λ task. let at = c .args in onward-none task (at .budget) (at .entered .now) (at .log .now) (at .machine) (at .sent) (at .machine .left) (λ j. refl) (c .pre .within)
+stays c = λ task. let at = c .args in onward-none task (at .budget) (at .entered .now) (at .log .now) (at .m) (at .sent) (at .m .left) (λ j. refl) (c .pre .within)
 
 returns : tie.Need-returns Inv-loop μ-loop
 returns c = stays (search)
@@ -41,13 +41,13 @@ returns-2 : tie.Need-returns-2 Inv-loop μ-loop
 returns-2 c = stays (search)
 
 -- what is known once the half on top asks: it searches, it is an out half, and there is room
-searching : (c : tie.After-enum-told Inv-loop μ-loop) → past tie.Start (search) .args .machine .stage ≡ Searching
+searching : (c : tie.After-enum-told Inv-loop μ-loop) → past tie.Start (search) .args .m .stage ≡ Searching
 searching c = c .enum-told .given .1
 
-out : (c : tie.Else1 Inv-loop μ-loop) → let at = past tie.Start (search) .args in at .machine .half ≡ outHalf (at .machine .half / 2)
+out : (c : tie.Else1 Inv-loop μ-loop) → let at = past tie.Start (search) .args in at .m .half ≡ outHalf (at .m .half / 2)
 out c = omega (arith, c .if1 .left)
 
-half-below : (c : tie.After-enum-told Inv-loop μ-loop) → past tie.Start (search) .args .machine .half < 2 * mostRadios
+half-below : (c : tie.After-enum-told Inv-loop μ-loop) → past tie.Start (search) .args .m .half < 2 * mostRadios
 half-below c = past tie.Start (search) .pre .half (searching (search))
 
 -- `search` enters 128 records at most, so the way back from the loop is cut into hops
@@ -63,10 +63,10 @@ loop-holds c =
     let at = start .args in
     let others = past tie.After-without (search) .without in
     record {
-      onward = λ task. onward-none task (at .budget) (at .entered .now) (at .log .now) (at .machine) (at .sent) (bitOr (others .result) (c .and-not .result)) (both-parts (at .machine .half / 2) (at .machine .left) (others .result) (c .and-not .result) (others .ensures) (c .and-not .ensures)) (start .pre .within);
+      onward = λ task. onward-none task (at .budget) (at .entered .now) (at .log .now) (at .m) (at .sent) (bitOr (others .result) (c .and-not .result)) (both-parts (at .m .half / 2) (at .m .left) (others .result) (c .and-not .result) (others .ensures) (c .and-not .ensures)) (start .pre .within);
       same-length = refl;
       a-set = omega arith;
-      not-u = own-not-other (at .machine .half / 2) (at .machine .left) (others .result) (c .and-not .result) (others .ensures) (c .and-not .ensures);
+      not-u = own-not-other (at .m .half / 2) (at .m .left) (others .result) (c .and-not .result) (others .ensures) (c .and-not .ensures);
       room = λ j e. omega arith;
       most = omega arith;
     }
@@ -108,7 +108,7 @@ loop-again c =
     let others = past tie.After-without (search) .without .ensures in
     let own = past tie.After-and-not (search) .and-not .ensures in
     let came = sym (past tie.After-is-entered (search) .is-entered .ensures) ∙ not-false _ (past tie.Else4 (search) .if4 .left) in
-    asking-more (at .budget) (at .entered .now) (at .log .now) (at .machine) (at .sent) (at .machine .half / 2) _ (searching (search)) (out (search)) (own-alone _ _ _ _ others own) (long (loop-of first))
+    asking-more (at .budget) (at .entered .now) (at .log .now) (at .m) (at .sent) (at .m .half / 2) _ (searching (search)) (out (search)) (own-alone _ _ _ _ others own) (long (loop-of first))
     (l .log) _ _ _ _ (l .others) (l .at) (first .first .result) _ (l .inv) (first .first .ensures) (asked-below first) came (omega arith) (c .without-first .ensures)
     (past tie.After-telling (search) .telling .ensures) (past tie.After-put (search) .put .ensures) (past tie.After-telling2 (search) .telling2 .ensures) (past tie.After-put2 (search) .put2 .ensures)
 
