@@ -1,24 +1,23 @@
 -- A set of radios spread over the rows: each of them gets radio i for a neighbour. Assumes nothing.
-use mathlib.Core.Path.{_≡_, refl, sym, ap, ap₂, _∙_}
-use mathlib.Core.Bool.{Bool, true, false, _&&_, _||_, and-false, or-false}
+use mathlib.Core.Path.{_≡_, refl, ap, _∙_}
+use mathlib.Core.Bool.{Bool, true, false, not, _&&_, _||_, and-false, or-false}
 use mathlib.Core.List.{List}
-use Prim.Native.Nat.{ℕ, _+_, _^_, _≤_, _<_, zero-le}
-use native.Mathlib.Decide.{ℕ-discrete, decLt}
+use Prim.Native.Nat.{ℕ, _^_, _<_}
 use native.Mathlib.Omega.{arith}
-use lib.Dec.{eqb, ltb}
+use lib.Dec.{eqb}
 use lib.ListN.{getD}
-use borrow.Author.Tests.{eq-eqb, ne-eqb, lt-ltb, le-ltb}
-use Rattle.basics.specs.Counting.{First}
+use borrow.Author.Tests.{eqb-true, eq-eqb, ne-eqb}
+use Rattle.basics.specs.Counting.{oneIf, count, First}
+use Rattle.basics.proofs.Counting.{sum-update}
 use Rattle.radios.specs.Member.{member}
-use Rattle.radios.proofs.Laws.{member-empty, member-high}
+use Rattle.radios.proofs.Laws.{member-empty}
 use Rattle.site.specs.Limits.{mostRadios}
 use Rattle.checks.specs.Checked.{joined}
 
--- the rows on the way: i has joined the rows of the set's radios below v, which is the next of them or 64
-pub record Spreading (i row : ℕ) (rows now : List ℕ) (v : ℕ) : Type 0 where
-  pub within : v ≤ mostRadios
-  pub next : v < mostRadios → member v row ≡ true
-  pub holds : (a b : ℕ) → member b (getD now a 0) ≡ ((eqb b i && (ltb a v && member a row)) || member b (getD rows a 0))
+-- the rows on the way: once i joins the rows of the radios that are left as well, it has joined those of the whole set
+pub record Spreading (i row : ℕ) (rows now : List ℕ) (rest : ℕ) : Type 0 where
+  pub a-set : rest < 2 ^ 64
+  pub holds : (a b : ℕ) → ((eqb b i && member a rest) || member b (getD now a 0)) ≡ ((eqb b i && member a row) || member b (getD rows a 0))
 
 pub swap : (p q z : Bool) → (p || (q || z)) ≡ (q || (p || z))
 swap true true z = refl
@@ -26,47 +25,30 @@ swap true false z = refl
 swap false true z = refl
 swap false false z = refl
 
-module _ (i row : ℕ) (rows : List ℕ) where
-  -- none of the set is between two that follow each other
-  none-between : (from v : ℕ) → First (λ j. member j row) from mostRadios v → (a : ℕ) → from ≤ a → (ltb a v && member a row) ≡ false
-  none-between from v f a l = pick (decLt a v)
+-- radio v, one of those that are left, leaves them
+module _ (rest rest′ v : ℕ) (first : First (λ j. member j rest) 0 mostRadios v) (below : v < mostRadios) (less : (j : ℕ) → member j rest′ ≡ (not (eqb j v) && member j rest)) where
+  pub spread-less : count (λ j. member j rest′) mostRadios < count (λ j. member j rest) mostRadios
+  spread-less =
+      omega (arith, sum-update (λ j. oneIf (member j rest′)) (λ j. oneIf (member j rest)) v mostRadios below (λ j p ne. rw (less j, ne-eqb j v ne)), ap oneIf (first .found below), ap oneIf gone)
     where
-      pick : Dec (a < v) → (ltb a v && member a row) ≡ false
-      pick (yes p) = simp (f .before a l p, and-false)
-      pick (no p) = simp (le-ltb a v (omega arith))
+      gone : member v rest′ ≡ false
+      gone = less v ∙ rw (eq-eqb v v refl)
 
-  pub spread-none : (v : ℕ) → First (λ j. member j row) 0 mostRadios v → Spreading i row rows rows v
-  spread-none v f = record { within = f .within; next = f .found; holds = λ a b. sym (simp (none-between 0 v f a zero-le, and-false)) }
-
-  pub spread-more : (now now′ : List ℕ) (v v′ alone : ℕ) → Spreading i row rows now v → v < mostRadios → First (λ j. member j row) (v + 1) mostRadios v′
-      → ((j : ℕ) → member j alone ≡ (eqb j i || member j 0))
-      → ((a b : ℕ) → member b (getD now′ a 0) ≡ ((eqb a v && member b alone) || member b (getD now a 0))) → Spreading i row rows now′ v′
-  spread-more now now′ v v′ alone s l f only widened =
+  pub spread-more : {i row : ℕ} {rows now now′ : List ℕ} (alone : ℕ) → Spreading i row rows now rest → rest′ < 2 ^ 64 → ((j : ℕ) → member j alone ≡ (eqb j i || member j 0))
+      → ((a b : ℕ) → member b (getD now′ a 0) ≡ ((eqb a v && member b alone) || member b (getD now a 0))) → Spreading i row rows now′ rest′
+  spread-more {i} alone s a-set only widened =
       record {
-        within = f .within;
-        next = f .found;
+        a-set = a-set;
         holds = λ a b.
-            widened a b ∙ ap₂ (λ (x y : Bool). (eqb a v && x) || y) (only b ∙ simp (member-empty b) (or-false (eqb b i))) (s .holds a b) ∙ pick a b (decLt a v) (ℕ-discrete a v);
+            rw (less a, widened a b, only b, member-empty b, or-false) (turned (eqb b i) (eqb a v) _ _ (λ e. ap (λ (x : ℕ). member x rest) (eqb-true a v e) ∙ first .found below) ∙ s .holds a b);
       }
     where
-      turned : (q z : Bool) → (q || ((q && false) || z)) ≡ ((q && true) || z)
-      turned true z = refl
-      turned false z = refl
+      turned : (p q m z : Bool) → (q ≡ true → m ≡ true) → ((p && (not q && m)) || ((q && p) || z)) ≡ ((p && m) || z)
+      turned true true m z f = rw (f refl)
+      turned false true m z f = refl
+      turned p false m z f = refl
 
-      pick : (a b : ℕ) → Dec (a < v) → Dec (a ≡ v)
-          → ((eqb a v && eqb b i) || ((eqb b i && (ltb a v && member a row)) || member b (getD rows a 0)))
-          ≡ ((eqb b i && (ltb a v′ && member a row)) || member b (getD rows a 0))
-      pick a b (yes p) d = simp (ne-eqb a v (λ e. omega arith), lt-ltb a v p, lt-ltb a v′ (omega (arith, f .from)))
-      pick a b (no p) (yes e) =
-          simp (eq-eqb a v e, le-ltb a v (omega arith), lt-ltb a v′ (omega (arith, f .from)), ap (λ (x : ℕ). member x row) e ∙ s .next l)
-          (turned (eqb b i) (member b (getD rows a 0)))
-      pick a b (no p) (no d) = simp (ne-eqb a v d, le-ltb a v (omega arith), none-between (v + 1) v′ f a (omega arith), and-false)
-
-  pub spread-all : (before now : List ℕ) (v : ℕ) → ((a b : ℕ) → member b (getD rows a 0) ≡ ((eqb a i && member b row) || member b (getD before a 0)))
-      → Spreading i row rows now v → mostRadios ≤ v → row < 2 ^ 64 → (a b : ℕ) → member b (getD now a 0) ≡ joined i row before a b
-  spread-all before now v widened s l fits a b =
-      s .holds a b ∙ ap₂ (λ (x y : Bool). (eqb b i && x) || y) (pick (decLt a v)) (widened a b) ∙ swap (eqb b i && member a row) (eqb a i && member b row) (member b (getD before a 0))
-    where
-      pick : Dec (a < v) → (ltb a v && member a row) ≡ member a row
-      pick (yes p) = simp (lt-ltb a v p)
-      pick (no p) = simp (le-ltb a v (omega arith)) (sym (member-high 64 a row fits (omega arith)))
+pub spread-all : {i row rest : ℕ} {rows now : List ℕ} (before : List ℕ) → ((a b : ℕ) → member b (getD rows a 0) ≡ ((eqb a i && member b row) || member b (getD before a 0)))
+    → Spreading i row rows now rest → rest ≡ 0 → (a b : ℕ) → member b (getD now a 0) ≡ joined i row before a b
+spread-all {i} {row} before widened s none a b =
+    (rw (none, member-empty a, and-false) at (s .holds a b)) ∙ rw (widened a b) (swap (eqb b i && member a row) (eqb a i && member b row) (member b (getD before a 0)))

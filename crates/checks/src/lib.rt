@@ -68,10 +68,11 @@ fn spread(rows: &mut [u64; 64], i: usize, row: u64)
 {
     widen(rows, i, row);
     let alone = radios::with(0, i);
-    let mut v = radios::first(row);
-    while v < site::MOST_RADIOS {
+    let mut rest = row;
+    while !radios::is_empty(rest) {
+        let v = radios::first(rest);
         widen(rows, v, alone);
-        v = radios::first_from(row, v + 1);
+        rest = radios::without_first(rest, v);
     }
 }
 
