@@ -7,8 +7,8 @@ ghost use lib.Dec.{eqb, ltb};
 ghost use lib.ListN.{getD, replicate};
 ghost use Rattle.radios.specs.Member.{member};
 ghost use Rattle.site.specs.Limits.{mostRadios};
-ghost use Rattle.site.specs.Map.{Site, inHalf, outHalf, radioOf, step, passes};
-ghost use Rattle.tokens.specs.Rules.{Plan, Marks, mayWalk, rising, unmarked, reversed, nextMarked};
+ghost use Rattle.site.specs.Map.{Site, inHalf, outHalf, step, passes};
+ghost use Rattle.tokens.specs.Rules.{Marks, mayWalk, unmarked, reversed, nextMarked};
 ghost use Rattle.openings.specs.Rows.{across, Open, Joined, OnSteps, Untried, NextHalf, placeInOrder};
 ghost use Rattle.radios.specs.Links.{RowsOfLinks};
 
@@ -78,7 +78,8 @@ fn half_across(h: usize, v: usize) -> usize
     2 * v + 1 - h % 2
 }
 
-// The half that half h tries next, of those it has left: the first of the others, its own other half last.
+// The half that half h tries next, of those it has left: the first of the others, its own other half last. That one is told
+// by h alone, so that a processor which guesses that no other is left need not wait for the set.
 pub fn next(left: u64, h: usize) -> usize
     requires { ⌜ (h < 2 * mostRadios) × (left ≡ 0 → ⊥) ⌝ }
     ensures { λ r. ⌜ NextHalf left h r ⌝ }
