@@ -1,12 +1,12 @@
 -- What each stage of the step leaves, by what its parts left. Assumes nothing.
 use mathlib.Core.Path.{_≡_, refl, sym, ap, ap₂, _∙_, subst}
-use mathlib.Core.Bool.{Bool, true, false, not, cond, _&&_, _||_, false≢true}
+use mathlib.Core.Bool.{Bool, true, false, not, _&&_, _||_, false≢true}
 use mathlib.Core.List.{List}
 use Prim.Native.Nat.{ℕ, suc, _+_, _*_, _%_, _≤_, _<_}
 use native.Mathlib.Decide.{decLt}
 use native.Mathlib.Numerals.{add-one}
 use native.Mathlib.Omega.{arith}
-use lib.Dec.{eqb, ltb}
+use lib.Dec.{eqb}
 use lib.ListN.{getD}
 use borrow.Author.Tests.{eq-eqb, ne-eqb, lt-ltb, le-ltb}
 use Rattle.radios.specs.Member.{member}
@@ -17,7 +17,7 @@ use Rattle.tokens.specs.declared.Kind.the-variants.{Pdt, PdtB, Pmt, Done}
 use Rattle.tokens.specs.declared.Message.{Message}
 use Rattle.tokens.specs.declared.Answer.{Answer}
 use Rattle.tokens.specs.declared.Answer.the-variants.{Sent, End}
-use Rattle.openings.specs.Rows.{across, Open, Joined, Untried, NextRadio}
+use Rattle.openings.specs.Rows.{across, Open, Joined, Untried, NextRadio, orNone}
 use Rattle.openings.proofs.Walks.{pair}
 use Rattle.openings.proofs.Turns.{on-turned, on-told, marks-told}
 use Rattle.openings.proofs.Order.{untried-whole, untried-less, none-left}
@@ -85,13 +85,10 @@ module _ (site : Site) (machine : Machine) (stepped : Stepped) (rows entered hal
   unfolding passOn
   not-passed place l untried = record { place = place; untried = untried; answers = rw (le-ltb w (site .n) l) refl }
 
--- a number above the map's stands for no radio, as n does
-abbrev orNone : Site → ℕ → ℕ
-orNone site w = cond (ltb w (site .n)) w (site .n)
-
-passes-none : (site : Site) (h v v′ w : ℕ) (notes : Notes) → (w < site .n → v ≡ v′) → passOn site h v (orNone site w) notes ≡ passOn site h v′ w notes
+-- DONE is passed on alike, whichever number stands for no radio
+passes-alike : (site : Site) (h v v′ w : ℕ) (notes : Notes) → (w < site .n → v ≡ v′) → passOn site h v (orNone site w) notes ≡ passOn site h v′ w notes
 unfolding passOn
-passes-none site h v v′ w notes same = go (decLt w (site .n))
+passes-alike site h v v′ w notes same = go (decLt w (site .n))
   where
     go : Dec (w < site .n) → passOn site h v (orNone site w) notes ≡ passOn site h v′ w notes
     go (yes l) = rw (lt-ltb w (site .n) l, lt-ltb w (site .n) l, same l) refl
@@ -108,7 +105,7 @@ module _ (site : Site) (machine : Machine) (stepped : Stepped) (rows entered hal
       record {
         place = gives .place;
         untried = gives .untried;
-        answers = rw is (passes-none site (outHalf (site .S)) (orNone site w) w w (notesIn site machine rows entered) (λ l. rw (lt-ltb w (site .n) l) refl) ∙ gives .answers);
+        answers = rw is (passes-alike site (outHalf (site .S)) (orNone site w) w w (notesIn site machine rows entered) (λ l. rw (lt-ltb w (site .n) l) refl) ∙ gives .answers);
       }
 
   pub released : (s : ℕ) → site .S ≡ s → Sends s
@@ -160,7 +157,7 @@ module _ {plan : Plan} {place : ℕ} {task : Task} {machine : Machine} {links ro
       (record {
         place = gives .place;
         untried = gives .untried;
-        answers = rw (not-T t, eq-eqb (machine .half % 2) 1 out, is) (passes-none (plan .site) (machine .half) (machine .other) (machine .other) w Now (λ l. refl) ∙ gives .answers);
+        answers = rw (not-T t, eq-eqb (machine .half % 2) 1 out, is) (passes-alike (plan .site) (machine .half) (machine .other) (machine .other) w Now (λ l. refl) ∙ gives .answers);
       })
 
   pub carrying-inside : machine .stage ≡ Carrying → (machine .half ≡ 2 * task .t → ⊥) → (machine .half % 2 ≡ 1 → ⊥) → (stepped : Stepped) (next : Machine) (left : ℕ)

@@ -49,7 +49,7 @@ pub struct Stepped {
 }
 
 // The machine at another stage, with another half that owes a reply, or the radio that S sent DONE to.
-fn at(m: Machine, stage: Stage, other: usize) -> Machine
+fn at_stage(m: Machine, stage: Stage, other: usize) -> Machine
     ensures { λ r. ⌜ r ≡ movedTo m stage (m .half) other (m .left) (m .depth) ⌝ }
 {
     Machine {
@@ -109,7 +109,7 @@ fn pass_on(n: usize, machine: Machine, h: usize, v: usize, w: usize) -> Stepped
         let mut there = machine;
         there.half = 2 * w;
         there.depth = 0;
-        return sent(Kind::Done, h, 2 * w, at(there, Stage::Carrying, v));
+        return sent(Kind::Done, h, 2 * w, at_stage(there, Stage::Carrying, v));
     }
     Stepped {
         answer: Answer::End,
@@ -162,10 +162,10 @@ fn receives(
 {
     if y == 2 * task.t {
         halves::enter(entered, y);
-        return at(machine, Stage::Granting, y);
+        return at_stage(machine, Stage::Granting, y);
     }
     if halves::is_entered(entered, y) {
-        return at(machine, Stage::Declining, y);
+        return at_stage(machine, Stage::Declining, y);
     }
     halves::enter(entered, y);
     push(halves, machine.depth, machine.half);
@@ -223,7 +223,7 @@ fn declines(machine: Machine) -> Stepped
     requires { ⌜ machine .stage ≡ Stage.Declining ⌝ }
     ensures { λ r. ⌜ ((task : Task) (links rows entered halves : List ℕ) → Steps task machine links rows entered halves r rows entered halves) ⌝ }
 {
-    let on_top = at(machine, Stage::Searching, machine.other);
+    let on_top = at_stage(machine, Stage::Searching, machine.other);
     sent(Kind::PdtB, machine.other, machine.half, on_top)
 }
 
@@ -239,7 +239,7 @@ fn grants(machine: Machine, rows: &mut [u64; 128], halves: &[u8; 128]) -> Steppe
     let mut there = machine;
     if machine.depth == 0 {
         there.found = machine.found + 1;
-        return sent(Kind::Pmt, y, h, at(there, Stage::Won, y));
+        return sent(Kind::Pmt, y, h, at_stage(there, Stage::Won, y));
     }
     let below = machine.depth - 1;
     there.half = halves[below] as usize;

@@ -15,7 +15,7 @@ use Rattle.radios.specs.Member.{member}
 use Rattle.radios.proofs.Laws.{member-empty, some-member}
 use Rattle.site.specs.Map.{Site, linkedOn, inHalf, outHalf, radioOf, isOut, step}
 use Rattle.tokens.specs.Rules.{Plan, Marks, mayWalk, rising, candidate, canTry, nextPlace, nextMarked}
-use Rattle.openings.specs.Rows.{across, Open, OnSteps, placeInOrder, Untried, NextRadio}
+use Rattle.openings.specs.Rows.{across, Open, OnSteps, placeInOrder, Untried, NextRadio, orNone}
 use Rattle.radios.specs.Links.{RowsOfLinks}
 use Rattle.openings.proofs.Walks.{from-out, walk-below, walk-step, step-out}
 
@@ -266,11 +266,11 @@ module _ (site : Site) (marks : Marks) (u : ℕ) (nt : u ≡ site .T → ⊥) (r
 
   module _ (set v r : ℕ) (few : site .n ≤ 64) (start : v ≤ site .n) (is-set : (w : ℕ) → member w set ≡ marks (outHalf u) (inHalf w)) (first : First (λ w. member w set) v 64 r) where
     -- r is it, or no radio of the map: then there is none
-    pub marked-next : nextMarked site marks (outHalf u) v ≡ cond (ltb r (site .n)) r (site .n)
+    pub marked-next : nextMarked site marks (outHalf u) v ≡ orNone site r
     unfolding nextMarked
     marked-next = pick (decLt r (site .n))
       where
-        pick : Dec (r < site .n) → nextMarked site marks (outHalf u) v ≡ cond (ltb r (site .n)) r (site .n)
+        pick : Dec (r < site .n) → nextMarked site marks (outHalf u) v ≡ orNone site r
         pick (yes l) =
             rw (lt-ltb r (site .n) l)
             (first-is (λ w. marks (outHalf u) (inHalf w)) v (site .n) r start

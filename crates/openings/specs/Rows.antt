@@ -4,7 +4,7 @@ use mathlib.Core.Bool.{true, not, cond, _&&_}
 use mathlib.Core.List.{List}
 use mathlib.Core.Logic.{_⊎_}
 use Prim.Native.Nat.{ℕ, _*_, _<_}
-use lib.Dec.{eqb, leb}
+use lib.Dec.{eqb, ltb, leb}
 use lib.ListN.{getD}
 use Rattle.radios.specs.Member.{member}
 use Rattle.site.specs.Limits.{mostRadios}
@@ -46,6 +46,12 @@ pub record NextHalf (left h y : ℕ) : Type 0 where
   pub few : y < 2 * mostRadios
   pub across-it : y ≡ across h (radioOf y)
   pub next : (plan : Plan) (marks : Marks) (place : ℕ) → plan .order ≡ rising → h < 2 * plan .site .n → Untried (plan .site) marks h place left → NextRadio plan marks h place (radioOf y)
+
+-- ---- the marked steps
+
+-- a radio's number as it is; any other stands for none, as n does
+abbrev pub orNone : Site → ℕ → ℕ
+orNone site w = cond (ltb w (site .n)) w (site .n)
 
 -- ---- what is leant on
 

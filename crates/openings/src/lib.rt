@@ -3,13 +3,13 @@ ghost use mathlib.Core.Path.{_≡_};
 ghost use mathlib.Core.Bool.{not, cond, _&&_};
 ghost use mathlib.Core.List.{List};
 ghost use Prim.Native.Nat.{ℕ, suc, _+_, _*_, _/_, _≤_, _<_};
-ghost use lib.Dec.{eqb, ltb};
+ghost use lib.Dec.{eqb};
 ghost use lib.ListN.{getD, replicate};
 ghost use Rattle.radios.specs.Member.{member};
 ghost use Rattle.site.specs.Limits.{mostRadios};
 ghost use Rattle.site.specs.Map.{Site, inHalf, outHalf, step, passes};
 ghost use Rattle.tokens.specs.Rules.{Marks, mayWalk, unmarked, reversed, nextMarked};
-ghost use Rattle.openings.specs.Rows.{across, Open, Joined, OnSteps, Untried, NextHalf, placeInOrder};
+ghost use Rattle.openings.specs.Rows.{across, Open, Joined, OnSteps, Untried, NextHalf, placeInOrder, orNone};
 ghost use Rattle.radios.specs.Links.{RowsOfLinks};
 
 // ---- the start: nothing is marked
@@ -113,7 +113,7 @@ pub fn after(row: u64, h: usize, v: usize) -> u64
 // The first radio from v on with a marked step from radio u's out half, where u is not T; 64 where there is none.
 pub fn next_marked(s: usize, links: &[u64; 64], rows: &[u64; 128], u: usize, v: usize) -> usize
     requires { ⌜ (s < mostRadios) × (u < mostRadios) × (v ≤ mostRadios) ⌝ }
-    ensures { λ r. ⌜ ((site : Site) (marks : Marks) → site .n ≤ mostRadios → v ≤ site .n → site .S ≡ s → (u ≡ site .T → ⊥) → RowsOfLinks (site .table) (site .n) (now (links .entry)) → OnSteps site marks → Open site marks (now (rows .entry)) → nextMarked site marks (outHalf u) v ≡ cond (ltb r (site .n)) r (site .n)) ⌝ }
+    ensures { λ r. ⌜ ((site : Site) (marks : Marks) → site .n ≤ mostRadios → v ≤ site .n → site .S ≡ s → (u ≡ site .T → ⊥) → RowsOfLinks (site .table) (site .n) (now (links .entry)) → OnSteps site marks → Open site marks (now (rows .entry)) → nextMarked site marks (outHalf u) v ≡ orNone site r) ⌝ }
 {
     let marked = radios::without(radios::and_not(links[u], rows[2 * u + 1]), s);
     radios::first_from(marked, v)

@@ -68,10 +68,10 @@ loop-again c =
 
 returns-5 : tie.Need-returns-5 Inv-loop μ-loop
 returns-5 c =
-    let l = (let p : tie.At-loop Inv-loop μ-loop = search in p .loop) in
-    let field = (let p : tie.Start Inv-loop μ-loop = search in p .args .field .now) in
-    let first : (eqb (length field) 1 || not (eqb (getD field 0 0) 48)) ≡ true = ⊎-elim (λ w. simp (w .2 .left, or-true)) (λ w. simp (eq-eqb (length field) 1 (omega arith))) ((let p : tie.Joined2 Inv-loop μ-loop = search in p .if2 .came)) in
-    sym (all-read field (l .value) (l .i) (l .inv) (drop-of-length-le field {i = l .i} (omega arith)) ((let p : tie.Else1 Inv-loop μ-loop = search in p .if1 .left)) first)
+    let l = past tie.At-loop (search) .loop in
+    let field = past tie.Start (search) .args .field .now in
+    let first : (eqb (length field) 1 || not (eqb (getD field 0 0) 48)) ≡ true = ⊎-elim (λ w. simp (w .2 .left, or-true)) (λ w. simp (eq-eqb (length field) 1 (omega arith))) (past tie.Joined2 (search) .if2 .came) in
+    sym (all-read field (l .value) (l .i) (l .inv) (drop-of-length-le field {i = l .i} (omega arith)) (past tie.Else1 (search) .if1 .left) first)
 
 pub number-of-spec : {M : Type 1} → statement M
 number-of-spec =

@@ -23,14 +23,14 @@ loop-holds c = (omega arith, λ a l. absurd (omega arith), λ bits. omega arith)
 
 loop-again : tie.Need-loop-again Inv-loop μ-loop
 loop-again c =
-    let table = (let p : tie.Start Inv-loop μ-loop = search in p .args .table .now) in
-    let l = (let p : tie.At-loop Inv-loop μ-loop = search in p .loop) in
+    let table = past tie.Start (search) .args .table .now in
+    let l = past tie.At-loop (search) .loop in
     (omega arith, λ a p. passed a p (decLt a (l .at)), λ bits. omega (arith, l .inv .2 bits, bits (l .at)))
   where
-    passed : (a : ℕ) → a < (let p : tie.At-loop Inv-loop μ-loop = search in p .loop .at) + 1 → Dec (a < (let p : tie.At-loop Inv-loop μ-loop = search in p .loop .at))
-        → getD (let p : tie.Start Inv-loop μ-loop = search in p .args .table .now) a 0 ≤ c .larger .result
-    passed a p (yes q) = omega (arith, (let p : tie.At-loop Inv-loop μ-loop = search in p .loop .inv .1) a q)
-    passed a p (no q) = let e : a ≡ (let p : tie.At-loop Inv-loop μ-loop = search in p .loop .at) = omega arith in rw e (omega arith)
+    passed : (a : ℕ) → a < (past tie.At-loop (search) .loop .at) + 1 → Dec (a < (past tie.At-loop (search) .loop .at))
+        → getD (past tie.Start (search) .args .table .now) a 0 ≤ c .larger .result
+    passed a p (yes q) = omega (arith, (past tie.At-loop (search) .loop .inv .1) a q)
+    passed a p (no q) = let e : a ≡ (past tie.At-loop (search) .loop .at) = omega arith in rw e (omega arith)
 
 returns : tie.Need-returns Inv-loop μ-loop
 returns c = (λ e at. below at (leb-true _ _ e) (decLt at (length (past tie.Start (search) .args .table .now))), λ bits. le-leb _ _ (past tie.At-loop (search) .loop .inv .2 bits))

@@ -14,12 +14,12 @@ returns c = simp (lt-ltb _ _ (c .if1 .taken))
 
 returns-2 : tie.Need-returns-2
 unfolding bad
-returns-2 c = simp (le-ltb _ _ (let p : tie.Else1 = search in p .if1 .left), eq-eqb _ _ (let p : tie.Then2 = search in p .if2 .taken), c .if3 .taken)
+returns-2 c = simp (le-ltb _ _ (past tie.Else1 (search) .if1 .left), eq-eqb _ _ (past tie.Then2 (search) .if2 .taken), c .if3 .taken)
 
 returns-3 : tie.Need-returns-3
 unfolding bad
 returns-3 c =
-    simp (le-ltb _ _ (let p : tie.Else1 = search in p .if1 .left))
+    simp (le-ltb _ _ (past tie.Else1 (search) .if1 .left))
     (⊎-elim (λ w. simp (eq-eqb _ _ (w .0 .taken), w .1 .left)) (λ w. simp (ne-eqb _ _ (w .left))) (c .if2 .came))
 
 pub is-bad-spec : {M : Type 1} → statement M

@@ -14,7 +14,7 @@ with-requires : tie.Need-with-requires
 with-requires c κs = past tie.Start (search) .pre
 
 returns-2 : tie.Need-returns-2
-returns-2 c = λ j. c .with .ensures j ∙ simp (eq-eqb _ _ (let p : tie.Else1 = search in p .if1 .left))
+returns-2 c = λ j. c .with .ensures j ∙ simp (eq-eqb _ _ (past tie.Else1 (search) .if1 .left))
 
 pub with-where-spec : {M : Type 1} → statement M
 with-where-spec = tie.close (tie.spec returns with-requires returns-2)

@@ -8,7 +8,7 @@ past P p = p
 
 returns : tie.Need-returns
 returns c =
-    let there = past tie.After-at (search) .at in
+    let there = past tie.After-at-stage (search) .at-stage in
     λ task links rows entered halves plan place ready. declining-replies ready (past tie.Start (search) .pre) (c .sent .result) (there .result) _ (there .ensures) (c .sent .ensures)
 
 pub declines-spec : {M : Type 1} → statement M

@@ -27,7 +27,7 @@ returns c = λ task links entered plan place ready.
     let start = past tie.Start (search) in
     let at = start .args in
     let turn = past tie.After-turn (search) .turn in
-    let there = past tie.After-at (search) .at in
+    let there = past tie.After-at-stage (search) .at-stage in
     granting-wins ready (start .pre .0) (turn .last .0) (turn .ensures (plan .site) (marksOf (plan .site) (at .rows .now)) (grant-joined ready (start .pre .0)) (ready .walks))
     (c .sent .result) (there .result) (past tie.Then1 (search) .if1 .taken) (there .ensures) (c .sent .ensures)
 

@@ -11,7 +11,7 @@ past P p = p
 returns : tie.Need-returns
 returns c =
     let at = past tie.Start (search) .args in
-    let there = past tie.After-at (search) .at in
+    let there = past tie.After-at-stage (search) .at-stage in
     λ site place rows entered halves radios untried. passed site (at .machine) (c .sent .result) rows entered halves (at .h) (at .v) (at .w) (there .result) _ (omega arith) (there .ensures) (c .sent .ensures)
 
 returns-2 : tie.Need-returns-2

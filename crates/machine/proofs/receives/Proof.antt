@@ -18,14 +18,14 @@ returns c =
     let at = past tie.Start (search) .args in
     let enter = past tie.After-enter (search) .enter in
     λ site sink walks untried.
-    T-receives site (at .machine) (c .at .result) (at .y) (at .rows .now) (at .entered .now) (enter .last .0) (at .halves .now) (past tie.Then1 (search) .if1 .taken ∙ ap inHalf (sym sink)) (enter .ensures) (c .at .ensures)
+    T-receives site (at .machine) (c .at-stage .result) (at .y) (at .rows .now) (at .entered .now) (enter .last .0) (at .halves .now) (past tie.Then1 (search) .if1 .taken ∙ ap inHalf (sym sink)) (enter .ensures) (c .at-stage .ensures)
 
 returns-2 : tie.Need-returns-2
 returns-2 c =
     let at = past tie.Start (search) .args in
     λ site sink walks untried.
-    entered-receives site (at .machine) (c .at2 .result) (at .y) (at .rows .now) (at .entered .now) (at .entered .now) (at .halves .now) (λ e. past tie.Else1 (search) .if1 .left (e ∙ ap inHalf sink))
-    (sym (past tie.After-is-entered (search) .is-entered .ensures) ∙ past tie.Then2 (search) .if2 .taken) untried (c .at2 .ensures)
+    entered-receives site (at .machine) (c .at-stage2 .result) (at .y) (at .rows .now) (at .entered .now) (at .entered .now) (at .halves .now) (λ e. past tie.Else1 (search) .if1 .left (e ∙ ap inHalf sink))
+    (sym (past tie.After-is-entered (search) .is-entered .ensures) ∙ past tie.Then2 (search) .if2 .taken) untried (c .at-stage2 .ensures)
 
 returns-3 : tie.Need-returns-3
 returns-3 c =

@@ -14,10 +14,10 @@ returns c = λ site marks below is j. member-empty j ∙ after-own site marks _ 
 
 returns-2 : tie.Need-returns-2
 returns-2 c = λ site marks below is j.
-    let above = (let p : tie.After-without = search in p .without .ensures j) in
-    let from = (let p : tie.After-from = search in p .from .ensures j) in
-    let own = (let p : tie.After-and-not = search in p .and-not .ensures j) in
-    let others = (let p : tie.After-without2 = search in p .without2 .ensures j) in
+    let above = past tie.After-without (search) .without .ensures j in
+    let from = past tie.After-from (search) .from .ensures j in
+    let own = past tie.After-and-not (search) .and-not .ensures j in
+    let others = past tie.After-without2 (search) .without2 .ensures j in
     c .both .ensures j ∙ rw (above, from, own, others) (after-other site marks _ _ _ below is (past tie.Else1 (search) .if1 .left) j)
 
 pub after-spec : {M : Type 1} → statement M

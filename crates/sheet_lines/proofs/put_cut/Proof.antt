@@ -49,8 +49,8 @@ shared-slice-read-put-item c = omega arith
 
 put-item-requires : tie.Need-put-item-requires Inv-loop μ-loop
 put-item-requires c κs =
-    let l = (let p : tie.At-loop Inv-loop μ-loop = search in p .loop) in
-    let start = (let p : tie.Start Inv-loop μ-loop = search in p) in
+    let l = past tie.At-loop (search) .loop in
+    let start = past tie.Start (search) in
     let items = start .args .items .now in
     room-first (l .next) (cutLines (l .i + 1) (getD items (l .i) 0 ∷ [])) (linesFrom (l .i + 1) items (start .args .count))
     (rw (opened items (start .args .count) (l .i) (omega arith) (omega arith)) at (partly-room (l .inv .1) (start .pre .1)))

@@ -21,7 +21,7 @@ same-length : tie.Need-same-length
 same-length c = omega arith
 
 returns : tie.Need-returns
-returns c = rw ((let p : tie.Then1 = search in p .if1 .taken)) ((let p : tie.After-put-field-word = search in p .put-field-word .ensures))
+returns c = rw (past tie.Then1 (search) .if1 .taken) (past tie.After-put-field-word (search) .put-field-word .ensures)
 
 slice-aggregate-put-field-word-2 : tie.Need-slice-aggregate-put-field-word-2
 slice-aggregate-put-field-word-2 c = search needs
@@ -33,7 +33,7 @@ same-length-2 : tie.Need-same-length-2
 same-length-2 c = omega arith
 
 returns-2 : tie.Need-returns-2
-returns-2 c = rw ((let p : tie.Else1 = search in p .if1 .left)) ((let p : tie.After-put-field-word2 = search in p .put-field-word2 .ensures))
+returns-2 c = rw (past tie.Else1 (search) .if1 .left) (past tie.After-put-field-word2 (search) .put-field-word2 .ensures)
 
 pub put-field-all-spec : {M : Type 1} → statement M
 put-field-all-spec =

@@ -32,7 +32,7 @@ same-length : tie.Need-same-length
 same-length c = omega arith
 
 returns : tie.Need-returns
-returns c = rw (word-of-link ((let p : tie.Start = search in p .args .item)) ((let p : tie.Then1 = search in p .if1 .taken))) ((let p : tie.After-put-field-word = search in p .put-field-word .ensures))
+returns c = rw (word-of-link (past tie.Start (search) .args .item) (past tie.Then1 (search) .if1 .taken)) (past tie.After-put-field-word (search) .put-field-word .ensures)
 
 put-field-number-requires : tie.Need-put-field-number-requires
 put-field-number-requires c κs = omega (arith, ap length (word-of-radio (past tie.Start (search) .args .item) (past tie.Else1 (search) .if1 .left)))
@@ -41,7 +41,7 @@ same-length-2 : tie.Need-same-length-2
 same-length-2 c = omega arith
 
 returns-2 : tie.Need-returns-2
-returns-2 c = rw (word-of-radio ((let p : tie.Start = search in p .args .item)) ((let p : tie.Else1 = search in p .if1 .left))) ((let p : tie.After-put-field-number = search in p .put-field-number .ensures))
+returns-2 c = rw (word-of-radio (past tie.Start (search) .args .item) (past tie.Else1 (search) .if1 .left)) (past tie.After-put-field-number (search) .put-field-number .ensures)
 
 pub put-field-item-spec : {M : Type 1} → statement M
 put-field-item-spec =

@@ -41,8 +41,8 @@ cast-put-field-number c = omega (arith, c .shared-slice-known2 .given (past tie.
 
 put-field-number-requires : tie.Need-put-field-number-requires Inv-loop μ-loop
 put-field-number-requires c κs =
-    let l = (let p : tie.At-loop Inv-loop μ-loop = search in p .loop) in
-    let start = (let p : tie.Start Inv-loop μ-loop = search in p) in
+    let l = past tie.At-loop (search) .loop in
+    let start = past tie.Start (search) in
     let radios = start .args .radios .now in
     room-first (l .next) (field (decimal (getD radios (l .i) 0))) (radioFields (drop (l .i + 1) radios) []) (rw (opened radios (l .i) (omega arith)) at (partly-room (l .inv .1) (start .pre)))
 
