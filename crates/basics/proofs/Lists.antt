@@ -3,10 +3,11 @@ use mathlib.Core.Path.{_≡_, refl, sym, ap, _∙_}
 use mathlib.Core.Bool.{Bool, true, false, _||_, cond, false≢true}
 use mathlib.Core.List.{List, [], _∷_, _++_, map}
 use mathlib.Core.Logic.{_⊎_, inl, inr}
-use Prim.Native.Nat.{ℕ, suc, _+_, _≤_, _<_}
+use Prim.Native.Nat.{ℕ, zero, suc, _+_, _≤_, _<_}
+use native.Mathlib.Nat.{not-suc-le-zero}
 use native.Mathlib.Omega.{arith}
 use lib.Dec.{eqb}
-use lib.ListN.{length}
+use lib.ListN.{length, getD}
 use borrow.Author.Tests.{eqb-true, eq-eqb, ne-eqb}
 use Rattle.basics.specs.Counting.{oneIf, sum, count}
 use Rattle.basics.specs.Lists.{among, Different, All, AnyTwo}
@@ -232,6 +233,12 @@ any-two-map R f (x ∷ list) d two = (
 pub all-follow {ℓ} : {A : Type ℓ} (P Q : A → Type 0) → ((x : A) → P x → Q x) → (list : List A) → All P list → All Q list
 all-follow P Q follows [] all = tt
 all-follow P Q follows (x ∷ list) all = (follows x (all .0), all-follow P Q follows list (all .1))
+
+-- what each of a list has, the one at an index has
+pub all-at {ℓ} : {A : Type ℓ} (P : A → Type 0) (list : List A) (i : ℕ) (other : A) → All P list → i < length list → P (getD list i other)
+all-at P [] i other all l = absurd (not-suc-le-zero l)
+all-at P (x ∷ list) zero other all l = all .0
+all-at P (x ∷ list) (suc i) other all l = all-at P list i other (all .1) (omega arith)
 
 -- what holds of every number among a list holds of each of it
 pub all-from : (P : ℕ → Type 0) (list : List ℕ) → ((x : ℕ) → among x list ≡ true → P x) → All P list

@@ -1,5 +1,6 @@
 -- What each judge says: the map's verdict once those before it have not come, and the number of steps from the rows. Assumes nothing.
 use mathlib.Core.Path.{_≡_, sym, ap, _∙_}
+use mathlib.Core.Bool.{true}
 use mathlib.Core.Logic.{_⊎_}
 use mathlib.Core.List.{List}
 use Prim.Native.Nat.{ℕ, _+_, _-_, _*_, _/_, _≤_, _<_}
@@ -14,7 +15,7 @@ use Rattle.site.specs.Limits.{mostRadios, mostLinks, mostPaths}
 use Rattle.site.specs.Map.{Site, links, degree, A}
 use Rattle.site.proofs.Formula.{Even, degrees-twice-links, steps-and-degrees, two-degrees, few-steps}
 use Rattle.log.specs.Bytes.{messageBytes}
-use Rattle.refusals.specs.Refusals.{Call, finding, mapVerdict, pairVerdict, roomVerdict, number}
+use Rattle.refusals.specs.Refusals.{Call, finding, noSize, mapVerdict, pairVerdict, roomVerdict, number}
 use Rattle.refusals.specs.declared.Finding.the-variants.{Sound, Bad}
 use Rattle.refusals.specs.declared.Verdict.{Verdict}
 use Rattle.refusals.specs.declared.Verdict.the-variants.{Accepted, Radios, TableLength, Cell, Links, Ends, Wanted, Log, Lists}
@@ -47,9 +48,9 @@ module _ {table : List ℕ} {n : ℕ} where
   refused told some = record { told = sym told; rows-are = λ e. absurd (some e); twice = λ e. absurd (some e) }
 
   module _ {rows : List ℕ} where
-    pub told-radios : (n < 2) ⊎ (mostRadios < n) → MapJudged table n rows (record { verdict = Radios; total = 0 })
+    pub told-radios : noSize n ≡ true → MapJudged table n rows (record { verdict = Radios; total = 0 })
     unfolding mapVerdict
-    told-radios h = refused (simp (tells-or _ _ (tells-below n 2) (tells-below mostRadios n) .1 h)) (λ e. omega arith)
+    told-radios h = refused (simp h) (λ e. omega arith)
 
     module _ (two : 2 ≤ n) (most : n ≤ mostRadios) where
       pub told-length : (length table ≡ n * n → ⊥) → MapJudged table n rows (record { verdict = TableLength; total = 0 })

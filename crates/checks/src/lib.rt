@@ -225,7 +225,7 @@ pub struct MapAnswer {
 pub fn judge_map(n: usize, table: &[u8], rows: &mut [u64; 64]) -> MapAnswer
     ensures { λ r. ⌜ MapJudged (now (table .entry)) n (now (rows .exit)) r ⌝ }
 {
-    if n < 2 || n > site::MOST_RADIOS {
+    if refusals::too_few(n) || refusals::too_many(n) {
         return MapAnswer {
             verdict: Verdict::Radios,
             total: 0,

@@ -2,25 +2,18 @@
 use mathlib.Core.Path.{_≡_, refl, sym, ap, _∙_}
 use mathlib.Core.Bool.{true, false}
 use mathlib.Core.List.{List, [], _∷_, _++_, map-append}
-use Prim.Native.Nat.{ℕ, zero, suc, _+_, _≤_, _<_}
+use Prim.Native.Nat.{ℕ, _+_, _≤_, _<_}
 use native.Mathlib.Nat.{not-suc-le-zero}
 use native.Mathlib.Numerals.{add-one}
 use native.Mathlib.Omega.{arith}
 use lib.Dec.{eqb}
 use lib.ListN.{length, getD, take, drop, set, length-take, length-map, drop-of-length-le}
 use lib.Seq.{drop-cons, take-suc, take-length}
-use Rattle.basics.specs.Lists.{All}
 use Rattle.site.specs.Map.{Site, inHalf, outHalf}
 use Rattle.tokens.specs.Rules.{Entered}
 use Rattle.tokens.specs.Run.{atLink, cutItem, itemOf, cutOf}
 use Rattle.cut.specs.Cut.{Ends}
 use Rattle.buffers.proofs.Stores.{store-next}
-
--- what each of a list has, the one at an index has
-pub all-at {ℓ} : {A : Type ℓ} (P : A → Type 0) (list : List A) (i : ℕ) (other : A) → All P list → i < length list → P (getD list i other)
-all-at P [] i other all l = absurd (not-suc-le-zero l)
-all-at P (x ∷ list) zero other all l = all .0
-all-at P (x ∷ list) (suc i) other all l = all-at P list i other (all .1) (omega arith)
 
 pub item-starts : (site : Site) (R : Entered) (radios : List ℕ) → 0 < length radios → itemOf site R radios ≡ cutItem site R (getD radios 0 0) (drop 1 radios)
 unfolding itemOf

@@ -2,10 +2,9 @@
 use mathlib.Core.Bool.{cond}
 use mathlib.Core.List.{List, []}
 use Prim.Native.Nat.{ℕ}
-use lib.Dec.{eqb, ltb}
+use lib.Dec.{ltb}
 use lib.ListN.{length}
-use Rattle.refusals.specs.Refusals.{Call, verdict, number, placeOf, mostMessages}
-use Rattle.refusals.specs.declared.Verdict.{Verdict}
+use Rattle.refusals.specs.Refusals.{Call, verdict, number, placeOf, mostMessages, ifAccepted}
 use Rattle.buffers.specs.Zeros.{zerosAfter}
 use Rattle.log.specs.Bytes.{logBytes}
 use Rattle.path_lists.specs.Bytes.{pathBytes}
@@ -33,10 +32,6 @@ cutFound call =
     cond (ltb (notes .found) (call .k)) (cutOf (call .site) (notes .entered) (pathsFound call)) []
 
 -- ---- what a call leaves, refusals first
-
--- an accepted run leaves its own, a refused one nothing
-abbrev pub ifAccepted {ℓ} : {X : Type ℓ} → Verdict → X → X → X
-ifAccepted verdict own nothing = cond (eqb (number verdict) 0) own nothing
 
 unfoldable pub outcome : Call → Outcome
 outcome call =

@@ -1,6 +1,6 @@
 -- What the refusals that do not come guarantee, part by part: a sound map, a pair that can be asked for, and room enough. Assumes nothing.
-use mathlib.Core.Path.{_≡_, sym}
-use mathlib.Core.Bool.{not, _&&_, and-false}
+use mathlib.Core.Path.{_≡_, refl, sym}
+use mathlib.Core.Bool.{Bool, true, false, not, _||_, _&&_, and-false, true≢false}
 use mathlib.Core.List.{List, _++_}
 use mathlib.Core.Logic.{inl, inr}
 use Prim.Native.Nat.{ℕ, _+_, _-_, _*_, _≤_, _<_}
@@ -8,7 +8,7 @@ use native.Mathlib.Omega.{arith}
 use native.Mathlib.Decide.{decLt, ℕ-discrete}
 use lib.Dec.{eqb, ltb}
 use lib.ListN.{length, getD}
-use borrow.Author.Tests.{le-ltb, lt-ltb, eq-eqb, ne-eqb}
+use borrow.Author.Tests.{ltb-false, le-ltb, lt-ltb, eq-eqb, ne-eqb}
 use Rattle.basics.specs.Numbered.{NoneHolds}
 use Rattle.basics.proofs.Numbered.{none-parts}
 use Rattle.basics.proofs.Places.{row-of, column-of, in-table}
@@ -17,7 +17,7 @@ use Rattle.site.specs.Map.{linked, links, A}
 use Rattle.site.proofs.Formula.{Even}
 use Rattle.site.proofs.Valid.{Valid}
 use Rattle.log.specs.Bytes.{messageBytes}
-use Rattle.refusals.specs.Refusals.{Call, finding, logNeeds, pathsNeed, verdict, number}
+use Rattle.refusals.specs.Refusals.{Call, noSize, finding, logNeeds, pathsNeed, verdict, number}
 use Rattle.refusals.specs.Conditions.{Fault, mirror, mapConditions, pairConditions, roomConditions}
 use Rattle.refusals.specs.declared.Finding.the-variants.{Sound}
 use Rattle.refusals.proofs.Exactly.{finds-nothing, call-exact}
@@ -45,6 +45,14 @@ even-links table n none u v = go (decLt u n) (decLt v n) (ℕ-discrete u v)
     go (no p) q e = rw (le-ltb u n (omega arith), and-false)
 
 -- ---- what each part guarantees
+
+-- 1 does not come: two radios or more, and no more than a kit has
+pub size-fits : (n : ℕ) → noSize n ≡ false → (2 ≤ n) × (n ≤ mostRadios)
+size-fits n fine = go (ltb n 2) refl fine
+  where
+    go : (few : Bool) → ltb n 2 ≡ few → (few || ltb mostRadios n) ≡ false → (2 ≤ n) × (n ≤ mostRadios)
+    go true e h = absurd (true≢false h)
+    go false e h = (ltb-false n 2 e, ltb-false mostRadios n h)
 
 -- 1 to 4 do not come: a sound map
 pub record SoundMap (table : List ℕ) (n : ℕ) : Type 0 where

@@ -16,8 +16,8 @@ use Rattle.basics.proofs.Counting.{first-from}
 use Rattle.basics.proofs.Numbered.{law-one, law-after}
 use Rattle.site.specs.Limits.{mostRadios, mostPaths}
 use Rattle.site.specs.Map.{A}
-use Rattle.refusals.specs.Refusals.{Call, bad, badAt, badCell, firstBad, finding, refuse, passed, _orElse_, mapVerdict, pairVerdict, roomVerdict, verdict, number, placeOf}
-use Rattle.refusals.specs.Conditions.{Fault, no-bit, diagonal, mirror, FirstFault, mapConditions, pairConditions, roomConditions, conditions}
+use Rattle.refusals.specs.Refusals.{Call, bad, badAt, badCell, firstBad, finding, refuse, passed, _orElse_, noSize, sizeVerdict, mapVerdict, pairVerdict, roomVerdict, verdict, number, placeOf}
+use Rattle.refusals.specs.Conditions.{Fault, no-bit, diagonal, mirror, FirstFault, sizeConditions, mapConditions, pairConditions, roomConditions, conditions}
 use Rattle.refusals.specs.declared.Finding.the-variants.{Sound, Bad}
 use Rattle.refusals.specs.declared.Verdict.{Verdict}
 use Rattle.refusals.specs.declared.Verdict.the-variants.{Accepted, Radios, TableLength, Cell, Links, Ends, Wanted, Log, Lists}
@@ -123,10 +123,17 @@ cells-exact table n = go (ltb (firstBad table n) (n * n)) refl (some-fault table
     go true e tells = record { law = law-one number (Cell (firstBad table n)) Accepted true (λ q. omega arith) refl tells; place-of-3 = λ q. first-fault table n (ltb-true _ _ e) }
     go false e tells = record { law = law-one number (Cell (firstBad table n)) Accepted false (λ q. omega arith) refl tells; place-of-3 = λ q. absurd (omega arith) }
 
+-- 1 in words
+pub size-tells : (n : ℕ) → Tells (noSize n) ((n < 2) ⊎ (mostRadios < n))
+size-tells n = tells-or _ _ (tells-below n 2) (tells-below mostRadios n)
+
+pub size-exact : {table : List ℕ} (n : ℕ) → Exact table n (sizeConditions n) (sizeVerdict n)
+size-exact n = one Radios _ refl (size-tells n)
+
 pub map-exact : (table : List ℕ) (n : ℕ) → Exact table n (mapConditions table n) (mapVerdict table n)
 unfolding mapVerdict
 map-exact table n =
-    one Radios _ refl (tells-or _ _ (tells-below n 2) (tells-below mostRadios n))
+    size-exact n
     then one TableLength _ refl (tells-not _ (tells-equal _ _))
     then cells-exact table n
     then one Links _ refl (tells-below _ _)

@@ -22,11 +22,15 @@ pub record FirstFault (table : List ℕ) (n place : ℕ) : Type 0 where
   pub fault : Fault table n place
   pub none-before : (earlier : ℕ) → earlier < place → Fault table n earlier → ⊥
 
+-- 1: n radios
+abbrev pub sizeConditions : ℕ → Conditions
+sizeConditions n = (1, (n < 2) ⊎ (mostRadios < n)) ∷ []
+
 -- 1 to 4: a map of n radios
 abbrev pub mapConditions : List ℕ → ℕ → Conditions
 mapConditions table n =
-    (1, (n < 2) ⊎ (mostRadios < n))
-    ∷ (2, length table ≡ n * n → ⊥)
+    sizeConditions n
+    ++ (2, length table ≡ n * n → ⊥)
     ∷ (3, (place : ℕ) × (place < n * n) × Fault table n place)
     ∷ (4, mostLinks < links table n)
     ∷ []

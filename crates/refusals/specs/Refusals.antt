@@ -86,6 +86,10 @@ placeOf Lists = 0
 
 -- ---- the first reason against a call
 
+-- an accepted call leaves its own, a refused one something else
+abbrev pub ifAccepted {ℓ} : {X : Type ℓ} → Verdict → X → X → X
+ifAccepted verdict own other = cond (eqb (number verdict) 0) own other
+
 -- refused by v if the test holds
 abbrev pub refuse : Bool → Verdict → Verdict
 refuse test v = cond test v Accepted
@@ -100,10 +104,24 @@ infixl 25 _orElse_
 abbrev pub _orElse_ : Verdict → Verdict → Verdict
 v orElse w = cond (eqb (number v) 0) w v
 
+-- a kit has no such number of radios
+abbrev pub tooFew : ℕ → Bool
+tooFew n = ltb n 2
+
+abbrev pub tooMany : ℕ → Bool
+tooMany n = ltb mostRadios n
+
+abbrev pub noSize : ℕ → Bool
+noSize n = tooFew n || tooMany n
+
+-- 1: n radios
+abbrev pub sizeVerdict : ℕ → Verdict
+sizeVerdict n = refuse (noSize n) Radios
+
 -- 1 to 4: a map of n radios
 unfoldable pub mapVerdict : List ℕ → ℕ → Verdict
 mapVerdict table n =
-    refuse (ltb n 2 || ltb mostRadios n) Radios
+    sizeVerdict n
     orElse refuse (not (eqb (length table) (n * n))) TableLength
     orElse passed (finding table n)
     orElse refuse (ltb mostLinks (links table n)) Links

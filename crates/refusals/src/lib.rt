@@ -1,6 +1,9 @@
 // The words that the check of a call answers with, and their numbers. The definitions are in specs/.
 ghost use mathlib.Core.Path.{_≡_};
-ghost use Rattle.refusals.specs.Refusals.{number, placeOf};
+ghost use Rattle.refusals.specs.Refusals.{number, placeOf, tooFew, tooMany};
+
+// A kit has at least so many radios.
+const FEWEST_RADIOS: usize = 2;
 
 // What the check of the table finds: no fault, or the place of the first bad cell in row order.
 pub enum Finding {
@@ -53,4 +56,19 @@ pub fn place_of(verdict: Verdict) -> usize
         Verdict::Log => 0,
         Verdict::Lists => 0,
     }
+}
+
+// Refusal 1: fewer radios than a kit has. Two questions and not one: so each caller branches twice, and the compiler knows both
+// limits from there on.
+pub fn too_few(n: usize) -> bool
+    ensures { λ r. ⌜ r ≡ tooFew n ⌝ }
+{
+    n < FEWEST_RADIOS
+}
+
+// Refusal 1: more radios than a kit has.
+pub fn too_many(n: usize) -> bool
+    ensures { λ r. ⌜ r ≡ tooMany n ⌝ }
+{
+    n > site::MOST_RADIOS
 }

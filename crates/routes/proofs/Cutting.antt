@@ -120,14 +120,14 @@ module _ {site : Site} (valid : Valid site) {m : Marks} {R : ℕ → Bool} (shut
   items-in-order (p ∷ ps) each = (path-leaves p (each .0) .meets, items-in-order ps (each .1))
 
   -- those of disjoint paths are different
-  items-different : (ps : List (List ℕ)) → All (Path site) ps → AnyTwo (Disjoint site) ps → Different (cutOf site R ps)
+  items-different : (ps : List (List ℕ)) → All (Path site) ps → AnyTwo (Disjoint (site .S) (site .T)) ps → Different (cutOf site R ps)
   items-different [] each two = tt
   items-different (p ∷ ps) each two = (not-true→false _ (new ps (each .1) (two .0)), items-different ps (each .1) (two .1))
     where
       leaves : LeavesAt p (itemOf site R p)
       leaves = path-leaves p (each .0)
 
-      new : (qs : List (List ℕ)) → All (Path site) qs → All (Disjoint site p) qs → among (itemOf site R p) (cutOf site R qs) ≡ true → ⊥
+      new : (qs : List (List ℕ)) → All (Path site) qs → All (Disjoint (site .S) (site .T) p) qs → among (itemOf site R p) (cutOf site R qs) ≡ true → ⊥
       new [] each apart h = among-nil (itemOf site R p) h
       new (q ∷ qs) each apart h = go (among-cases (itemOf site R p) (itemOf site R q) (cutOf site R qs) h) (new qs (each .1) (apart .1))
         where

@@ -18,7 +18,7 @@ use Rattle.site.proofs.Valid.{Valid}
 
 module _ (site : Site) (small : site .n ≤ 64) where
   -- no item meets two disjoint paths
-  pub meets-one : (x : ℕ) (p q : List ℕ) → CutItem site x → Disjoint site p q → Meets site x p → Meets site x q → ⊥
+  pub meets-one : (x : ℕ) (p q : List ℕ) → CutItem site x → Disjoint (site .S) (site .T) p q → Meets site x p → Meets site x q → ⊥
   meets-one x p q (inl radio) d (inl on) (inl on′) = ends (d .apart x (on .1) (on′ .1))
     where
       ends : (x ≡ site .S) ⊎ (x ≡ site .T) → ⊥
@@ -34,14 +34,14 @@ module _ (site : Site) (small : site .n ≤ 64) where
   Met items p = (x : ℕ) × (among x items ≡ true) × CutItem site x × Meets site x p
 
   -- what meets the others is still there without the item of the first
-  still-met : (items : List ℕ) (p : List ℕ) (first : Met items p) (ps : List (List ℕ)) → All (Disjoint site p) ps → All (Met items) ps → All (Met (erase (first .0) items)) ps
+  still-met : (items : List ℕ) (p : List ℕ) (first : Met items p) (ps : List (List ℕ)) → All (Disjoint (site .S) (site .T) p) ps → All (Met items) ps → All (Met (erase (first .0) items)) ps
   still-met items p first [] apart met = tt
   still-met items p first (q ∷ ps) apart met =
       let y : ℕ = met .0 .0 in
       let other : y ≡ first .0 → ⊥ = λ e. meets-one y p q (met .0 .2) (apart .0) (rw e (first .3)) (met .0 .3) in
       ((y, erase-keeps (first .0) y items other (met .0 .1), met .0 .2, met .0 .3), still-met items p first ps (apart .1) (met .1))
 
-  no-more : (items : List ℕ) (ps : List (List ℕ)) → AnyTwo (Disjoint site) ps → All (Met items) ps → length ps ≤ length items
+  no-more : (items : List ℕ) (ps : List (List ℕ)) → AnyTwo (Disjoint (site .S) (site .T)) ps → All (Met items) ps → length ps ≤ length items
   no-more items [] two met = omega arith
   no-more items (p ∷ ps) two met =
       let x : ℕ = met .0 .0 in
@@ -143,7 +143,7 @@ module _ (site : Site) (valid : Valid site) where
   inner-different p path = erase-different (site .T) (erase (site .S) p) (erase-different (site .S) p (path .different) .0) .0
 
   -- what stands inside a path stands in no path disjoint from it
-  not-inside : (x : ℕ) (p : List ℕ) → Inner x p → (ps : List (List ℕ)) → All (Path site) ps → All (Disjoint site p) ps → among x (innerOf ps) ≡ true → ⊥
+  not-inside : (x : ℕ) (p : List ℕ) → Inner x p → (ps : List (List ℕ)) → All (Path site) ps → All (Disjoint (site .S) (site .T) p) ps → among x (innerOf ps) ≡ true → ⊥
   not-inside x p i [] each apart h = among-nil x h
   not-inside x p i (q ∷ ps) each apart h = go (among-append x (inner q) (innerOf ps) h) (not-inside x p i ps (each .1) (apart .1))
     where
@@ -155,7 +155,7 @@ module _ (site : Site) (valid : Valid site) where
       go (inl e) ih = ends (apart .0 .apart x (i .on) (inner-says x q (each .0) e .on))
       go (inr e) ih = ih e
 
-  all-different : (ps : List (List ℕ)) → All (Path site) ps → AnyTwo (Disjoint site) ps → Different (innerOf ps)
+  all-different : (ps : List (List ℕ)) → All (Path site) ps → AnyTwo (Disjoint (site .S) (site .T)) ps → Different (innerOf ps)
   all-different [] each two = tt
   all-different (p ∷ ps) each two = different-append (inner p) (innerOf ps) (inner-different p (each .0)) (all-different ps (each .1) (two .1)) (λ x h. not-inside x p (inner-says x p (each .0) h) ps (each .1) (two .0))
 

@@ -31,7 +31,7 @@ module _ {site : Site} (valid : Valid site) {p : ℕ} {m : Marks} (flow : Flow (
   unfolding pathOf
   is-path v e = trail-path site m (flow .on-steps) (inHalf v) (trailOf site m v) (whole v e)
 
-  are-disjoint : (v v′ : ℕ) → m (outHalf (site .S)) (inHalf v) ≡ true → m (outHalf (site .S)) (inHalf v′) ≡ true → (v ≡ v′ → ⊥) → Disjoint site (pathOf site m v) (pathOf site m v′)
+  are-disjoint : (v v′ : ℕ) → m (outHalf (site .S)) (inHalf v) ≡ true → m (outHalf (site .S)) (inHalf v′) ≡ true → (v ≡ v′ → ⊥) → Disjoint (site .S) (site .T) (pathOf site m v) (pathOf site m v′)
   unfolding pathOf
   are-disjoint v v′ e e′ other =
       trails-disjoint site m (flow .on-steps) v v′ (trailOf site m v) (trailOf site m v′) (whole v e) (whole v′ e′)
@@ -42,7 +42,7 @@ module _ {site : Site} (valid : Valid site) {p : ℕ} {m : Marks} (flow : Flow (
   unfolding pathsFrom
   paths-disjoint = record {
     each = all-map (Path site) (pathOf site m) (starts site m) (λ v h. is-path v (starts-marked site m v h));
-    two = any-two-map (Disjoint site) (pathOf site m) (starts site m) (starts-different site m) (λ v v′ h h′. are-disjoint v v′ (starts-marked site m v h) (starts-marked site m v′ h′));
+    two = any-two-map (Disjoint (site .S) (site .T)) (pathOf site m) (starts site m) (starts-different site m) (λ v v′ h h′. are-disjoint v v′ (starts-marked site m v h) (starts-marked site m v′ h′));
   }
 
   -- a flow of p units has p paths

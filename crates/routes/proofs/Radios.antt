@@ -129,7 +129,7 @@ module _ (site : Site) (m : Marks) (on : (a b : ℕ) → m a b ≡ true → step
 
   -- two whole trails that begin with different radios and share only their ends are disjoint paths
   pub trails-disjoint : (v v′ : ℕ) (trail trail′ : List ℕ) → Arrived (networkOf site) m (inHalf v) trail → Arrived (networkOf site) m (inHalf v′) trail′
-      → ((x : ℕ) → among x trail ≡ true → among x trail′ ≡ true → (x ≡ outHalf (site .S) → ⊥) → (x ≡ inHalf (site .T) → ⊥) → ⊥) → (v ≡ v′ → ⊥) → Disjoint site (site .S ∷ radiosOf trail []) (site .S ∷ radiosOf trail′ [])
+      → ((x : ℕ) → among x trail ≡ true → among x trail′ ≡ true → (x ≡ outHalf (site .S) → ⊥) → (x ≡ inHalf (site .T) → ⊥) → ⊥) → (v ≡ v′ → ⊥) → Disjoint (site .S) (site .T) (site .S ∷ radiosOf trail []) (site .S ∷ radiosOf trail′ [])
   trails-disjoint v v′ trail trail′ whole whole′ apart other = record {
     differ = λ e. other (head-eq-of-cons-eq (sym (starts v trail whole .1) ∙ tail-eq-of-cons-eq e ∙ starts v′ trail′ whole′ .1));
     apart = λ x h h′. go x (among-cases x (site .S) (radiosOf trail []) h) (among-cases x (site .S) (radiosOf trail′ []) h′);

@@ -21,15 +21,15 @@ pub record Path (site : Site) (p : List ℕ) : Type 0 where
   pub to-T : LeadsToT site (site .S) rest
   pub different : Different p
 
--- two paths are disjoint if they are different and share no radio but S and T
-pub record Disjoint (site : Site) (p q : List ℕ) : Type 0 where
+-- two lists of radios from S to T are disjoint if they are different and share no radio but S and T
+pub record Disjoint (S T : ℕ) (p q : List ℕ) : Type 0 where
   pub differ : p ≡ q → ⊥
-  pub apart : (x : ℕ) → among x p ≡ true → among x q ≡ true → (x ≡ site .S) ⊎ (x ≡ site .T)
+  pub apart : (x : ℕ) → among x p ≡ true → among x q ≡ true → (x ≡ S) ⊎ (x ≡ T)
 
 -- paths of which any two are disjoint
 pub record DisjointPaths (site : Site) (ps : List (List ℕ)) : Type 0 where
   pub each : All (Path site) ps
-  pub two : AnyTwo (Disjoint site) ps
+  pub two : AnyTwo (Disjoint (site .S) (site .T)) ps
 
 -- M: so many disjoint paths there are, and no more
 pub record Largest (site : Site) (M : ℕ) : Type 0 where

@@ -1,11 +1,11 @@
 -- The order of the refusals of a text: what is told of it once each of them is passed. Assumes nothing.
 use mathlib.Core.Path.{_≡_, sym, _∙_}
-use mathlib.Core.Bool.{or-true}
+use mathlib.Core.Bool.{true, false}
 use mathlib.Core.List.{List}
 use Prim.Native.Nat.{ℕ, _+_, _≤_, _<_}
 use lib.ListN.{length, take}
 use borrow.Author.Tests.{lt-ltb, le-ltb, eq-eqb, ne-eqb}
-use Rattle.site.specs.Limits.{mostRadios}
+use Rattle.refusals.specs.Refusals.{noSize}
 use Rattle.captures.specs.Words.{lineFeed}
 use Rattle.captures.specs.Text.{pieces}
 use Rattle.captures.specs.Capture.{headOf, wrongLine}
@@ -43,14 +43,11 @@ module _ {numbers : Surveyed} {paths cut : List ℕ} where
 
   -- 1
   module _ (capture n S T k : ℕ) (lines : List Line) where
-    pub told-few : n < 2 → Delivered (refusedFor WrongRadios) numbers paths cut → Delivered (ofHead (Net capture n S T k) lines) numbers paths cut
-    told-few few t = rw (lt-ltb n 2 few) t
+    pub told-radios : noSize n ≡ true → Delivered (refusedFor WrongRadios) numbers paths cut → Delivered (ofHead (Net capture n S T k) lines) numbers paths cut
+    told-radios bad t = rw bad t
 
-    pub told-many : mostRadios < n → Delivered (refusedFor WrongRadios) numbers paths cut → Delivered (ofHead (Net capture n S T k) lines) numbers paths cut
-    told-many many t = rw (lt-ltb mostRadios n many, or-true) t
-
-    pub told-between : 2 ≤ n → n ≤ mostRadios → Delivered (ofLines (record { capture = capture; n = n; s = S; t = T; k = k }) lines) numbers paths cut → Delivered (ofHead (Net capture n S T k) lines) numbers paths cut
-    told-between two most t = rw (le-ltb n 2 two, le-ltb mostRadios n most) t
+    pub told-between : noSize n ≡ false → Delivered (ofLines (record { capture = capture; n = n; s = S; t = T; k = k }) lines) numbers paths cut → Delivered (ofHead (Net capture n S T k) lines) numbers paths cut
+    told-between fine t = rw fine t
 
   -- 11, or the map
   module _ (first : FirstLine) {text : List ℕ} {from : ℕ} {table : List ℕ} {bad : ℕ} (read : LinesRead text from (first .n) table bad) where

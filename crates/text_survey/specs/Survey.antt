@@ -1,14 +1,13 @@
 -- From a text to its numbers or its refusal: document 01's order of 10, 9, 1 and 11, and then the survey of the map. What is wrong with a
 -- line stands in the specs of `captures`, Capture.antt.
-use mathlib.Core.Bool.{_||_, cond}
+use mathlib.Core.Bool.{cond}
 use mathlib.Core.List.{List, [], tail}
 use Prim.Native.Nat.{ℕ}
 use lib.Dec.{eqb, ltb}
 use lib.ListN.{length, getD}
-use Rattle.site.specs.Limits.{mostRadios}
-use Rattle.refusals.specs.Refusals.{Call, callOf, verdict, number, placeOf}
+use Rattle.refusals.specs.Refusals.{Call, callOf, verdict, number, placeOf, noSize, ifAccepted}
 use Rattle.refusals.specs.declared.Verdict.the-variants.{Radios}
-use Rattle.outcome.specs.Leaves.{pathsFound, cutFound, ifAccepted, outcome}
+use Rattle.outcome.specs.Leaves.{pathsFound, cutFound, outcome}
 use Rattle.captures.specs.Words.{lineFeed}
 use Rattle.captures.specs.Text.{pieces}
 use Rattle.captures.specs.Capture.{headOf, wrongLine, linesOf, faultLine, tableOf}
@@ -92,7 +91,7 @@ ofLines first lines =
 -- 1 before that
 abbrev pub ofHead : Head → List Line → TextSurvey
 ofHead (Net capture n S T k) lines =
-    cond (ltb n 2 || ltb mostRadios n) (refusedFor WrongRadios) (ofLines (record { capture = capture; n = n; s = S; t = T; k = k }) lines)
+    cond (noSize n) (refusedFor WrongRadios) (ofLines (record { capture = capture; n = n; s = S; t = T; k = k }) lines)
 ofHead NoNet lines = refusedFor (WrongShape 1)
 
 -- 10, then 9 over all lines

@@ -21,9 +21,6 @@ pub const PATH_BYTES: usize = 86;
 
 pub const CUT_BYTES: usize = 8;
 
-// A site has no fewer radios.
-const FEWEST_RADIOS: usize = 2;
-
 // The cells of the largest table.
 const TABLE_BYTES: usize = site::MOST_RADIOS * site::MOST_RADIOS;
 
@@ -193,7 +190,7 @@ pub fn survey_text(text: &[u8], paths: &mut [u8], cut: &mut [u8]) -> Surveyed
         // Never, since the first line has the right shape; the definition has a line for it all the same.
         return refused(TextFault::WrongShape(1), paths, cut);
     };
-    if n < FEWEST_RADIOS || n > site::MOST_RADIOS {
+    if refusals::too_few(n) || refusals::too_many(n) {
         return refused(TextFault::WrongRadios, paths, cut);
     }
     let first = FirstLine {

@@ -4,12 +4,13 @@ use Prim.Native.Nat.{_-_, _≤_, _<_}
 use native.Mathlib.Omega.{arith}
 use borrow.Author.Tests.{not-true, not-false}
 use lib.ListN.{length, getD, drop}
+use Rattle.basics.proofs.Lists.{all-at}
 use Rattle.site.specs.Limits.{mostRadios}
 use Rattle.site.specs.Map.{Site}
 use Rattle.tokens.specs.Run.{cutItem, itemOf}
 use Rattle.halves.specs.Bytes.{enteredOf}
 use Rattle.cut.specs.Cut.{Ends}
-use Rattle.cut.proofs.Cutting.{all-at, item-of-none, item-starts, item-ends, leaves-at-link, leaves-inside, stays}
+use Rattle.cut.proofs.Cutting.{item-of-none, item-starts, item-ends, leaves-at-link, leaves-inside, stays}
 use Rattle.cut.proofs.cut_item.Statement.{statement}
 use Rattle.cut.proofs.cut_item.Tie as tie
 

@@ -4,6 +4,7 @@ use mathlib.Core.List.{List, []}
 use Prim.Native.Nat.{ℕ, _-_, _≤_}
 use native.Mathlib.Omega.{arith}
 use lib.ListN.{length, length-set}
+use Rattle.basics.proofs.Lists.{all-at}
 use Rattle.site.specs.Map.{Site}
 use Rattle.tokens.specs.Run.{itemOf}
 use Rattle.path_lists.specs.Bytes.{Holds}
@@ -11,7 +12,7 @@ use Rattle.path_lists.specs.Reading.{pathPlace}
 use Rattle.path_lists.proofs.Walking.{at-front, Stands, path-inside, path-stands}
 use Rattle.halves.specs.Bytes.{enteredOf}
 use Rattle.cut.specs.Cut.{Ends, Radios}
-use Rattle.cut.proofs.Cutting.{all-at, Itemed, one-more-item, all-items}
+use Rattle.cut.proofs.Cutting.{Itemed, one-more-item, all-items}
 use Rattle.cut.proofs.write_cut.Statement.{statement}
 use Rattle.cut.proofs.write_cut.Tie as tie
 

@@ -1,17 +1,20 @@
 -- `text_survey::survey_text` meets its contract: each refusal in its turn, and then the lines. Assumes nothing.
-use mathlib.Core.Path.{sym, _∙_}
+use mathlib.Core.Path.{_≡_, sym, _∙_}
+use mathlib.Core.Bool.{true, false}
 use mathlib.Core.Logic.{⊎-elim}
 use Prim.Native.Nat.{_+_}
 use native.Mathlib.Omega.{arith}
 use lib.Seq.{length-take-le}
-use borrow.Author.Tests.{ltb-true, ltb-false}
 use borrow.Author.Needs.{needs}
 use Rattle.captures.proofs.Bounds.{head-most}
+use Rattle.basics.proofs.Bools.{or-left, or-right, or-neither}
+use Rattle.refusals.specs.Refusals.{tooFew, noSize}
+use Rattle.refusals.proofs.Accepted.{size-fits}
 use Rattle.texts.specs.Table.{linesFrom}
 use Rattle.texts.proofs.Lines.{Begins, begins}
 use Rattle.text_survey.proofs.Lines.{wrong-small}
 use Rattle.text_survey.proofs.Answers.{table-room}
-use Rattle.text_survey.proofs.Order.{told-long, told-wrong, told-right, told-few, told-many, told-between}
+use Rattle.text_survey.proofs.Order.{told-long, told-wrong, told-right, told-radios, told-between}
 use Rattle.text_survey.proofs.survey_text.Statement.{statement}
 use Rattle.text_survey.proofs.survey_text.Tie as tie
 
@@ -50,17 +53,18 @@ returns-3 c =
 
 -- ---- 1, then the lines
 
+fine : (c : tie.Else4) → noSize (past tie.After-head (search) .head .given .0 .1 .0) ≡ false
+fine c = or-neither _ _ (sym (past tie.After-too-few (search) .too-few .ensures) ∙ past tie.Else3 (search) .if3 .left) (sym (past tie.After-too-many (search) .too-many .ensures) ∙ c .if4 .left)
+
 returns-4 : tie.Need-returns-4
 returns-4 c =
     let head = past tie.After-head (search) .head .given in
     let told = past tie.After-refused4 (search) .refused4 .ensures in
     let lines = linesFrom (past tie.Start (search) .args .text .now) (past tie.After-end-of (search) .end-of .result + 1) in
+    let bad : noSize (head .0 .1 .0) ≡ true = ⊎-elim (λ w. or-left _ _ (sym (past tie.After-too-few (search) .too-few .ensures) ∙ w .taken)) (λ w. or-right (tooFew (head .0 .1 .0)) _ (sym (w .1 .ensures) ∙ w .2 .taken)) (past tie.Joined3 (search) .if3 .came) in
     told-right _ (past tie.Else1 (search) .if1 .left) (past tie.After-first-wrong (search) .first-wrong .ensures) (past tie.Else2 (search) .if2 .left) (past tie.After-end-of (search) .end-of .ensures)
     (past tie.After-head-of (search) .head-of .ensures) (head .1)
-    (⊎-elim
-    (λ w. told-few (head .0 .0) (head .0 .1 .0) (head .0 .1 .1 .0) (head .0 .1 .1 .1 .0) (head .0 .1 .1 .1 .1 .0) lines (w .taken) told)
-    (λ w. told-many (head .0 .0) (head .0 .1 .0) (head .0 .1 .1 .0) (head .0 .1 .1 .1 .0) (head .0 .1 .1 .1 .1 .0) lines (ltb-true _ _ (w .1 .taken)) told)
-    (past tie.Joined3 (search) .if3 .came))
+    (told-radios (head .0 .0) (head .0 .1 .0) (head .0 .1 .1 .0) (head .0 .1 .1 .1 .0) (head .0 .1 .1 .1 .1 .0) lines bad told)
 
 add-survey-lines : tie.Need-add-survey-lines
 add-survey-lines c = omega (arith, begun (search) .ended)
@@ -73,13 +77,13 @@ survey-lines-requires c κs =
     let start = past tie.Start (search) in
     let cells = past tie.After-cells (search) .cells .ensures in
     let head = sym (past tie.After-head (search) .head .given .1) ∙ past tie.After-head-of (search) .head-of .ensures in
-    (record { short = past tie.Else1 (search) .if1 .left; within = omega (arith, begun (search) .ended); capture = head-most _ _ _ _ _ _ (sym head) .0; few = ltb-false _ _ (past tie.Else4 (search) .if4 .left) }, length-take-le _ _ (table-room (past tie.After-no-table (search) .no-table .ensures) (cells .1)) ∙ cells .0, start .pre)
+    (record { short = past tie.Else1 (search) .if1 .left; within = omega (arith, begun (search) .ended); capture = head-most _ _ _ _ _ _ (sym head) .0; few = size-fits _ (fine (search)) .1 }, length-take-le _ _ (table-room (past tie.After-no-table (search) .no-table .ensures) (cells .1)) ∙ cells .0, start .pre)
 
 returns-5 : tie.Need-returns-5
 returns-5 c =
     told-right _ (past tie.Else1 (search) .if1 .left) (past tie.After-first-wrong (search) .first-wrong .ensures) (past tie.Else2 (search) .if2 .left) (past tie.After-end-of (search) .end-of .ensures)
     (past tie.After-head-of (search) .head-of .ensures) (past tie.After-head (search) .head .given .1)
-    (told-between _ _ _ _ _ _ (past tie.Else3 (search) .if3 .left) (ltb-false _ _ (past tie.Else4 (search) .if4 .left)) (past tie.After-survey-lines (search) .survey-lines .ensures))
+    (told-between _ _ _ _ _ _ (fine (search)) (past tie.After-survey-lines (search) .survey-lines .ensures))
 
 pub survey-text-spec : {M : Type 1} → statement M
 survey-text-spec =
@@ -104,11 +108,13 @@ survey-text-spec =
     (λ c. search needs)
     returns-3
     (λ c κs. search needs)
+    (λ c κs. search needs)
+    (λ c κs. search needs)
     (λ c. search needs)
     (λ c. search needs)
     returns-4
     (λ c κs. search needs)
-    (λ c κs. search needs)
+    (λ c κs. size-fits _ (fine (search)) .1)
     add-survey-lines
     (λ c. search needs)
     slice-aggregate-survey-lines
