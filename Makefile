@@ -14,7 +14,7 @@ SHELL := bash
 unexport MAKEFLAGS MAKELEVEL MFLAGS
 
 # The crates that export a public call: each is one member of the archive.
-CALLS := survey
+CALLS := survey route_records
 
 PREFIX := /usr/local
 DESTDIR :=

@@ -1,11 +1,13 @@
-//! A plain Rust version of the survey: document 01's rules written straight down.
+//! A plain Rust version of the survey and of its records: the documents' rules written straight
+//! down.
 //!
 //! It keeps a byte for each mark and each entered half and looks for the next candidate by going
-//! through the table's row, as a first version by hand would.
+//! through the table's row, as a first version by hand would. For the record of a radio it looks
+//! through the paths.
 
 mod exported;
 
-use exported::{Asked, Lent, Outcome};
+use exported::{Asked, Lent, Outcome, Route};
 
 const FEWEST_RADIOS: usize = 2;
 const MOST_RADIOS: usize = 64;
@@ -256,4 +258,78 @@ impl Search<'_> {
         }
         DIRECT_LINK
     }
+}
+
+pub fn routes(radios: usize, count: usize, bytes: &[u8], routes: &mut [Route]) -> usize {
+    if !(FEWEST_RADIOS..=MOST_RADIOS).contains(&radios) {
+        return 1;
+    }
+    if routes.len() < radios {
+        return 20;
+    }
+    let Some(paths) = read_paths(count, bytes) else {
+        return 21;
+    };
+    if !are_disjoint(radios, &paths[..count]) {
+        return 21;
+    }
+    for (radio, route) in (0..).zip(&mut routes[..radios]) {
+        *route = route_of(radio, &paths[..count]);
+    }
+    0
+}
+
+/// The paths that are there, each of two radios or more; nothing where the list ends too soon.
+fn read_paths(count: usize, bytes: &[u8]) -> Option<[&[u8]; MOST_WANTED]> {
+    let mut paths = [&bytes[..0]; MOST_WANTED];
+    let mut rest = bytes;
+    for path in paths.get_mut(..count)? {
+        let (&length, after) = rest.split_first()?;
+        if length < 2 {
+            return None;
+        }
+        (*path, rest) = after.split_at_checked(usize::from(length))?;
+    }
+    Some(paths)
+}
+
+fn are_disjoint(radios: usize, paths: &[&[u8]]) -> bool {
+    for (number, path) in paths.iter().enumerate() {
+        let last = path.len() - 1;
+        for (place, &radio) in path.iter().enumerate() {
+            if usize::from(radio) >= radios || path[..place].contains(&radio) {
+                return false;
+            }
+        }
+        for before in &paths[..number] {
+            let last_before = before.len() - 1;
+            if before[0] != path[0] || before[last_before] != path[last] {
+                return false;
+            }
+            // Two paths without a radio between the ends are one path.
+            if last == 1 && last_before == 1 {
+                return false;
+            }
+            if path[1..last].iter().any(|radio| before.contains(radio)) {
+                return false;
+            }
+        }
+    }
+    true
+}
+
+fn route_of(radio: u8, paths: &[&[u8]]) -> Route {
+    for (number, path) in (1..).zip(paths) {
+        let last = path.len() - 1;
+        for (place, &other) in path.iter().enumerate() {
+            if other == radio {
+                return match place {
+                    0 => Route::SOURCE,
+                    _ if place == last => Route::SINK,
+                    _ => Route::on_path(number, path[place - 1], path[place + 1]),
+                };
+            }
+        }
+    }
+    Route::OFF_PATHS
 }

@@ -1,14 +1,15 @@
-//! A tuned Rust version of the survey, to measure the proved library against.
+//! A tuned Rust version of the survey and of its records, to measure the proved library against.
 //!
 //! Sets of radios are 64-bit numbers. The marks are a flow, so a radio on a marked way has one
 //! radio before it and one after it; these are kept instead of a table of marks. An in half then
 //! has exactly one step to walk, so only out halves wait on the stack, and nearly all messages come
-//! in twos, which are written by one store. The log, the paths, the cut, the zeros and the refusals
-//! are those of document 01, byte for byte.
+//! in twos, which are written by one store. The records are made in one pass over the path list,
+//! which is judged on the way. The log, the paths, the cut, the zeros, the records and the refusals
+//! are those of the documents, byte for byte.
 
 mod exported;
 
-use exported::{Asked, Lent, Outcome};
+use exported::{Asked, Lent, Outcome, Route};
 
 const FEWEST_RADIOS: usize = 2;
 const MOST_RADIOS: usize = 64;
@@ -451,5 +452,75 @@ impl Search {
             }
             radio = next;
         }
+    }
+}
+
+pub fn routes(radios: usize, count: usize, paths: &[u8], routes: &mut [Route]) -> usize {
+    if !(FEWEST_RADIOS..=MOST_RADIOS).contains(&radios) {
+        return 1;
+    }
+    let Some(lent) = routes.get_mut(..radios) else {
+        return 20;
+    };
+    // A refused call changes no record, so they are made here first.
+    let mut records = [Route::OFF_PATHS; MOST_RADIOS];
+    if count > MOST_WANTED || fill(radios, count, paths, &mut records).is_none() {
+        return 21;
+    }
+    lent.copy_from_slice(&records[..radios]);
+    0
+}
+
+/// Nothing where the list is not that many disjoint paths.
+fn fill(
+    radios: usize,
+    count: usize,
+    paths: &[u8],
+    records: &mut [Route; MOST_RADIOS],
+) -> Option<()> {
+    if count == 0 {
+        return Some(());
+    }
+    let (source, sink) = ends(paths)?;
+    if source == sink || usize::from(source.max(sink)) >= radios {
+        return None;
+    }
+    // Radios that no path may go through any more; those beyond n are among them from the start.
+    let beyond = !(u64::MAX >> (MOST_RADIOS - radios));
+    let mut taken = beyond | only(usize::from(source)) | only(usize::from(sink));
+    let mut has_direct = false;
+    let mut rest = paths;
+    for number in 1..=count as u8 {
+        if ends(rest)? != (source, sink) {
+            return None;
+        }
+        let (path, after) = rest[1..].split_at(usize::from(rest[0]));
+        rest = after;
+        if path.len() == 2 && std::mem::replace(&mut has_direct, true) {
+            return None;
+        }
+        let (mut before, mut here) = (source, path[1]);
+        for &next in &path[2..] {
+            let radio = usize::from(here);
+            if radio >= MOST_RADIOS || has(taken, radio) {
+                return None;
+            }
+            taken |= only(radio);
+            records[radio] = Route::on_path(number, before, next);
+            (before, here) = (here, next);
+        }
+    }
+    records[usize::from(source)] = Route::SOURCE;
+    records[usize::from(sink)] = Route::SINK;
+    Some(())
+}
+
+/// The first and the last radio of the path that the list begins with.
+fn ends(list: &[u8]) -> Option<(u8, u8)> {
+    let (&length, rest) = list.split_first()?;
+    let path = rest.get(..usize::from(length))?;
+    match path {
+        [first, .., last] => Some((*first, *last)),
+        _ => None,
     }
 }

@@ -1,8 +1,8 @@
 /* Fogsignaller: surveys a map of radios for paths that share no radio between their ends.
  *
- * One call, proved to leave exactly what the rules (docs/RULES.md) say, in every number and every
- * byte, for every input. It allocates nothing, keeps nothing between calls and calls back nobody,
- * so calls from several threads are fine as long as their buffers are different.
+ * Two calls, each proved to leave exactly what the rules (docs/RULES.md) say, in every number and
+ * every byte, for every input. They allocate nothing, keep nothing between calls and call back
+ * nobody, so calls from several threads are fine as long as their buffers are different.
  *
  * `make library` builds target/libfogsignaller.a; `make install` puts it in place, with this header
  * and fogsignaller.pc for pkg-config. Link it with -lfogsignaller. Each call is a member of its own
@@ -12,7 +12,7 @@
 #define FOGSIGNALLER_H
 
 /* The version of the header, the library, the command and the Rust package: one number for all. */
-#define FOG_VERSION "1.0.0"
+#define FOG_VERSION "1.1.0"
 
 #include <stddef.h>
 #include <stdint.h>
@@ -21,7 +21,8 @@
 extern "C" {
 #endif
 
-/* Why a call was refused. They are tried in this order and the first that holds is given. */
+/* Why a call was refused. They are tried in this order and the first that holds is given; 1 to 8
+ * by fog_survey, and 1, 20 and 21 by fog_routes. */
 enum fog_refusal {
     FOG_ACCEPTED = 0,
     FOG_NUMBER_OF_RADIOS = 1, /* n is below 2 or above 64 */
@@ -32,7 +33,12 @@ enum fog_refusal {
     FOG_ENDS = 5,             /* s or t is not below n, or they are equal */
     FOG_WANTED = 6,           /* k is 0 or above 8 */
     FOG_LOG_TOO_SHORT = 7,    /* log_len is below 4*(2k+1)*A */
-    FOG_LIST_TOO_SHORT = 8    /* paths_len is below n-2+3k, or cut_len is below k */
+    FOG_LIST_TOO_SHORT = 8,   /* paths_len is below n-2+3k, or cut_len is below k */
+
+    FOG_ROUTES_TOO_SHORT = 20, /* routes_len is below n */
+    FOG_PATH_LIST = 21         /* count is above 8, or paths does not hold that many disjoint lists
+                                  of two or more different radios below n with the same first and
+                                  the same last */
 };
 
 /* The kinds of message in the log. */
@@ -43,6 +49,14 @@ enum fog_kind {
     FOG_DONE = 4   /* walks each path once after the last round */
 };
 
+/* What a radio is to the paths. */
+enum fog_role {
+    FOG_OFF_PATHS = 0, /* on no path */
+    FOG_ON_PATH = 1,   /* on a path, between its ends */
+    FOG_SOURCE = 2,    /* s, where the paths begin */
+    FOG_SINK = 3       /* t, where the paths end */
+};
+
 /* How the cut list names the direct link between s and t. */
 #define FOG_DIRECT_LINK 255
 
@@ -50,8 +64,9 @@ enum fog_kind {
 #define FOG_LOG_ALWAYS_ENOUGH 39032 /* 4*17*574: k is at most 8 and A at most 574 */
 #define FOG_PATHS_ALWAYS_ENOUGH 86  /* 62 radios inside paths, and a length and two ends for 8 */
 #define FOG_CUT_ALWAYS_ENOUGH 8     /* one item a path */
+#define FOG_ROUTES_ALWAYS_ENOUGH 64 /* one record a radio */
 
-/* The numbers that a call returns. After a refusal the three counts are 0. */
+/* The numbers that a survey returns. After a refusal the three counts are 0. */
 struct fog_outcome {
     size_t refusal;  /* an enum fog_refusal; 0 if the call was accepted */
     size_t place;    /* the bad cell for FOG_CELL, else 0 */
@@ -88,6 +103,33 @@ struct fog_outcome {
 struct fog_outcome fog_survey(size_t n, const uint8_t *table, size_t table_len, size_t s, size_t t,
                               size_t k, uint8_t *log, size_t log_len, uint8_t *paths,
                               size_t paths_len, uint8_t *cut, size_t cut_len);
+
+/* The record that one radio is loaded with. Look at the role first: 0 is a radio too, so a 0 in
+ * before or after says something only where the role is FOG_ON_PATH. Elsewhere all three are 0. */
+typedef struct fog_route {
+    uint8_t role;   /* an enum fog_role */
+    uint8_t path;   /* the number of its path, from 1 */
+    uint8_t before; /* the radio before it, towards s */
+    uint8_t after;  /* the radio after it, towards t */
+} fog_route;
+
+/* Turns a path list into one record for each radio.
+ *
+ * n       the number of radios, 2 to 64; they are numbered from 0.
+ * count   the number of paths, at most 8. With no paths all n records become 0.
+ * paths   for each path, its number of radios and then the radios from s to t, as fog_survey leaves
+ *         them. All paths have the same s and the same t and share no other radio, and one of them
+ *         at most has no radio in between. Bytes past the last path are not read.
+ * routes  gets the record of radio v at place v. It must have room for n records: routes_len counts
+ *         records, not bytes. Those past n stay as they were.
+ *
+ * It returns an enum fog_refusal: 0 if the call was accepted, else 1, 20 or 21. A refused call
+ * changes no record.
+ *
+ * paths and routes must not overlap, and the pointers must be as those of fog_survey.
+ */
+size_t fog_routes(size_t n, size_t count, const uint8_t *paths, size_t paths_len, fog_route *routes,
+                  size_t routes_len);
 
 #ifdef __cplusplus
 }

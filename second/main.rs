@@ -1,4 +1,4 @@
-//! The second program: document 01 written a second time, in another design, to compare with.
+//! The second program: the documents written a second time, in another design, to compare with.
 //!
 //! It shares nothing with the library. Every accepted run is held against checks that do not
 //! use the token search; a failed check ends the program with a line that names the case.
@@ -11,6 +11,7 @@ mod largest;
 mod map;
 mod outcome;
 mod refusals;
+mod routes;
 mod rows;
 mod sheet;
 mod soak;

@@ -1,6 +1,7 @@
 //! Document 01, "Refusals by number, in this order", for callers of the library and for texts.
 //!
-//! Numbers are judged as they come; none is narrowed before it has been judged.
+//! The refusals of document 02's requests have their numbers here too. Numbers are judged as they
+//! come; none is narrowed before it has been judged.
 
 use std::collections::HashSet;
 
@@ -20,6 +21,8 @@ pub enum Refusal {
     LineShape { line: usize },
     TextTooLong,
     LinkLine { line: usize },
+    TooFewRecords,
+    PathList,
 }
 
 impl Refusal {
@@ -36,6 +39,8 @@ impl Refusal {
             Refusal::LineShape { .. } => 9,
             Refusal::TextTooLong => 10,
             Refusal::LinkLine { .. } => 11,
+            Refusal::TooFewRecords => 20,
+            Refusal::PathList => 21,
         }
     }
 
@@ -97,7 +102,7 @@ pub fn judge_capture(capture: &Capture) -> Result<Question, Refusal> {
     judge_ends_and_wanted(map, capture.source, capture.destination, capture.wanted)
 }
 
-fn judge_number_of_radios(radios: usize) -> Result<(), Refusal> {
+pub fn judge_number_of_radios(radios: usize) -> Result<(), Refusal> {
     if (FEWEST_RADIOS..=MOST_RADIOS).contains(&radios) {
         return Ok(());
     }

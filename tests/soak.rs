@@ -1,7 +1,7 @@
-//! Random calls and random texts, held against the second program until the time is up.
+//! Random calls, route lists and texts, held against the second program until the time is up.
 //!
-//! The library is called in this process, the compiled program is started once a text. Calls and
-//! texts are those of calls.rs and texts.rs: each comes from the seed and its number alone.
+//! The library is called in this process, the compiled program is started once a text. They are
+//! those of calls.rs and texts.rs: each comes from the seed and its number alone.
 
 #[path = "texts/both_sheets.rs"]
 mod both_sheets;
@@ -13,6 +13,8 @@ mod capture;
 mod chance;
 #[path = "../second/checks.rs"]
 mod checks;
+#[path = "calls/guarded.rs"]
+mod guarded;
 #[path = "../second/halves.rs"]
 mod halves;
 #[path = "../second/largest.rs"]
@@ -30,6 +32,8 @@ mod outcome;
 mod program;
 #[path = "calls/random.rs"]
 mod random_calls;
+#[path = "calls/random_routes.rs"]
+mod random_routes;
 #[allow(dead_code)]
 #[path = "texts/random.rs"]
 mod random_texts;
@@ -38,6 +42,10 @@ mod raw;
 #[allow(dead_code)]
 #[path = "../second/refusals.rs"]
 mod refusals;
+#[path = "calls/route_sides.rs"]
+mod route_sides;
+#[path = "../second/routes.rs"]
+mod routes;
 #[path = "../second/calls.rs"]
 mod second_calls;
 #[path = "calls/shapes.rs"]
@@ -48,6 +56,8 @@ mod sheet;
 mod smaller;
 #[path = "calls/smaller_maps.rs"]
 mod smaller_maps;
+#[path = "calls/smaller_routes.rs"]
+mod smaller_routes;
 #[path = "texts/smaller.rs"]
 mod smaller_texts;
 
@@ -63,7 +73,7 @@ use std::time::{Duration, Instant};
 use program::Program;
 
 const USAGE: &str = "\
-usage: soak MINUTES SEED NOTES PROGRAM [WORDS]    random calls and texts for so many minutes
+usage: soak MINUTES SEED NOTES PROGRAM [WORDS]    random cases for so many minutes
 the file NOTES is written with what each thread is at, for a library that ends this process
 ";
 
@@ -72,7 +82,7 @@ const EXIT_USAGE: u8 = 2;
 
 /// The machine that runs this is shared; one calls while the other waits for the program.
 const THREADS: usize = 2;
-/// Calls and texts take turns of this length, so that each gets half of the time.
+/// The kinds take turns of this length, so that each gets as much of the time.
 const TURN: Duration = Duration::from_millis(100);
 /// A terminal's one line is written again and again; a file gets fewer.
 const BETWEEN_LINES_ON_TERMINAL: Duration = Duration::from_millis(500);
@@ -98,6 +108,7 @@ fn main() -> ExitCode {
 #[derive(Clone, Copy, PartialEq, Eq, Hash)]
 enum Kind {
     Call,
+    Route,
     Text,
 }
 
@@ -105,6 +116,7 @@ impl Kind {
     fn name(self) -> &'static str {
         match self {
             Kind::Call => "call",
+            Kind::Route => "route list",
             Kind::Text => "text",
         }
     }
@@ -134,6 +146,7 @@ struct Soak<'words> {
     programs: [Program<'words>; THREADS],
     started: Instant,
     calls: Cases,
+    routes: Cases,
     texts: Cases,
     doing: [Mutex<Option<Doing>>; THREADS],
     notes: File,
@@ -163,6 +176,7 @@ impl<'words> Soak<'words> {
             programs: std::array::from_fn(|_| Program::new(program)),
             started,
             calls: Cases::default(),
+            routes: Cases::default(),
             texts: Cases::default(),
             doing: Default::default(),
             notes: File::create(notes).ok()?,
@@ -190,9 +204,9 @@ impl<'words> Soak<'words> {
         self.started.elapsed() >= self.time || self.ended.load(Ordering::Relaxed) > 0
     }
 
-    /// Every other thread begins with texts.
+    /// Each thread begins with another kind.
     fn take_turns(&self, thread: usize) {
-        let kinds = [Kind::Call, Kind::Text];
+        let kinds = [Kind::Call, Kind::Text, Kind::Route];
         for turn in thread.. {
             let turn_started = Instant::now();
             while turn_started.elapsed() < TURN {
@@ -207,6 +221,7 @@ impl<'words> Soak<'words> {
     fn cases(&self, kind: Kind) -> &Cases {
         match kind {
             Kind::Call => &self.calls,
+            Kind::Route => &self.routes,
             Kind::Text => &self.texts,
         }
     }
@@ -219,6 +234,11 @@ impl<'words> Soak<'words> {
             Kind::Call => {
                 let trial = random_calls::trial_of(self.seed, number);
                 let refusal = || smaller::refusal_number(&trial.call);
+                trial.differs().then(refusal)
+            }
+            Kind::Route => {
+                let trial = random_routes::trial_of(self.seed, number);
+                let refusal = || Some(smaller_routes::refusal_number(&trial));
                 trial.differs().then(refusal)
             }
             Kind::Text => {
@@ -246,7 +266,7 @@ impl<'words> Soak<'words> {
             number,
             since: Instant::now(),
         });
-        let line = format!("{} {number:20}\n", kind.name());
+        let line = format!("{:10} {number:20}\n", kind.name());
         let place = thread * line.len();
         self.notes
             .write_all_at(line.as_bytes(), place as u64)
@@ -262,6 +282,10 @@ impl<'words> Soak<'words> {
         let smaller = match kind {
             Kind::Call => {
                 let smallest = smaller::shrink(random_calls::trial_of(seed, number));
+                format!("  {}\n{}", smallest.what_differs(), smallest.describe())
+            }
+            Kind::Route => {
+                let smallest = smaller_routes::shrink(random_routes::trial_of(seed, number));
                 format!("  {}\n{}", smallest.what_differs(), smallest.describe())
             }
             Kind::Text => {
@@ -327,7 +351,9 @@ impl<'words> Soak<'words> {
     }
 
     fn differences(&self) -> usize {
-        self.calls.different.load(Ordering::Relaxed) + self.texts.different.load(Ordering::Relaxed)
+        let kinds = [&self.calls, &self.routes, &self.texts];
+        let different = |cases: &Cases| cases.different.load(Ordering::Relaxed);
+        kinds.into_iter().map(different).sum()
     }
 
     fn progress_line(&self) -> String {
@@ -350,8 +376,9 @@ impl<'words> Soak<'words> {
     fn counts(&self) -> String {
         let differences = self.differences();
         format!(
-            "{} calls and {} texts, {} difference{}",
+            "{} calls, {} route lists and {} texts, {} difference{}",
             with_commas(self.calls.compared.load(Ordering::Relaxed)),
+            with_commas(self.routes.compared.load(Ordering::Relaxed)),
             with_commas(self.texts.compared.load(Ordering::Relaxed)),
             with_commas(differences),
             if differences == 1 { "" } else { "s" }

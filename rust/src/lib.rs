@@ -1,5 +1,6 @@
 //! Surveys a map of radios: up to k paths from S to T that share no radio between the ends, every
-//! message that the search sent, and a cut where fewer than k paths exist.
+//! message that the search sent, a cut where fewer than k paths exist, and the record of its path
+//! that each radio is loaded with.
 //!
 //! The work is done by a static library that is proved to leave exactly what the project's scope
 //! paper says. This package is a thin wrapper without dependencies; the proof does not cover it.
@@ -25,6 +26,55 @@
 //! assert_eq!(found.paths().collect::<Vec<_>>(), [[0, 1, 2]]);
 //! assert_eq!(found.cut().collect::<Vec<_>>(), [CutItem::Radio(1)]);
 //! assert_eq!((found.rounds(), found.messages().len()), (2, 9));
+//! # Ok::<(), fogsignaller::Refusal>(())
+//! ```
+//!
+//! Each radio's record, here those of map Q of the scope paper:
+//!
+//! ```
+//! use fogsignaller::{survey, Question, Role, Route, ROUTES_ALWAYS_ENOUGH};
+//!
+//! let links = [(0, 1), (0, 4), (1, 2), (1, 6), (2, 3), (2, 5), (3, 4), (3, 7), (6, 7)];
+//! let mut table = [0; 8 * 8];
+//! for (one, other) in links {
+//!     table[one * 8 + other] = 1;
+//!     table[other * 8 + one] = 1;
+//! }
+//! let question = Question {
+//!     radios: 8,
+//!     table: &table,
+//!     source: 0,
+//!     destination: 7,
+//!     wanted: 3,
+//! };
+//! let found = survey(&question)?;
+//! assert_eq!(found.paths().collect::<Vec<_>>(), [[0, 1, 6, 7], [0, 4, 3, 7]]);
+//!
+//! let mut records = [Route::default(); ROUTES_ALWAYS_ENOUGH];
+//! let routes = found.routes_into(&mut records)?;
+//! let without_path = |role| Route {
+//!     role,
+//!     path: None,
+//!     before: None,
+//!     after: None,
+//! };
+//! let on_path = |number, before, after| Route {
+//!     role: Role::OnPath,
+//!     path: Some(number),
+//!     before: Some(before),
+//!     after: Some(after),
+//! };
+//! let expected = [
+//!     without_path(Role::Source),
+//!     on_path(1, 0, 6),
+//!     without_path(Role::OffPaths),
+//!     on_path(2, 4, 7),
+//!     on_path(2, 0, 3),
+//!     without_path(Role::OffPaths),
+//!     on_path(1, 1, 7),
+//!     without_path(Role::Sink),
+//! ];
+//! assert_eq!(routes, expected);
 //! # Ok::<(), fogsignaller::Refusal>(())
 //! ```
 //!
@@ -64,6 +114,8 @@ pub const LOG_ALWAYS_ENOUGH: usize = 39_032;
 pub const PATHS_ALWAYS_ENOUGH: usize = 86;
 /// A cut list of this length is enough for every accepted call: one item a path.
 pub const CUT_ALWAYS_ENOUGH: usize = 8;
+/// A record list of this length is enough for every accepted call: one record a radio.
+pub const ROUTES_ALWAYS_ENOUGH: usize = 64;
 
 const BYTES_A_MESSAGE: usize = 4;
 const DIRECT_LINK: u8 = 255;
@@ -98,7 +150,8 @@ pub struct Buffers<'buffers> {
     pub cut: &'buffers mut [u8],
 }
 
-/// Why a question was refused. They are tried in this order, and the first that holds is given.
+/// Why a call was refused. They are tried in this order, and the first that holds is given; the
+/// last two and the first are those of a path list.
 #[derive(Clone, Copy, Debug, PartialEq, Eq, Hash)]
 pub enum Refusal {
     /// n is below 2 or above 64.
@@ -120,10 +173,15 @@ pub enum Refusal {
     LogTooShort,
     /// The path list is shorter than n−2+3k bytes, or the cut list is shorter than k bytes.
     ListTooShort,
+    /// The record list is shorter than n records.
+    RoutesTooShort,
+    /// There are more than 8 paths, or the path list does not hold that many disjoint lists of two
+    /// or more different radios below n with the same first and the same last.
+    PathList,
 }
 
 impl Refusal {
-    /// The number that the scope paper gives to this refusal, 1 to 8.
+    /// The number that this refusal has in every language: 1 to 8, 20 or 21.
     pub fn number(self) -> usize {
         match self {
             Refusal::NumberOfRadios => 1,
@@ -134,23 +192,25 @@ impl Refusal {
             Refusal::Wanted => 6,
             Refusal::LogTooShort => 7,
             Refusal::ListTooShort => 8,
+            Refusal::RoutesTooShort => 20,
+            Refusal::PathList => 21,
         }
     }
 
     /// Nothing for an accepted call.
-    fn of(outcome: &raw::Outcome) -> Option<Refusal> {
-        match outcome.refusal {
+    fn of(number: usize, place: usize) -> Option<Refusal> {
+        match number {
             0 => None,
             1 => Some(Refusal::NumberOfRadios),
             2 => Some(Refusal::TableLength),
-            3 => Some(Refusal::Cell {
-                place: outcome.place,
-            }),
+            3 => Some(Refusal::Cell { place }),
             4 => Some(Refusal::TooManyLinks),
             5 => Some(Refusal::Ends),
             6 => Some(Refusal::Wanted),
             7 => Some(Refusal::LogTooShort),
             8 => Some(Refusal::ListTooShort),
+            20 => Some(Refusal::RoutesTooShort),
+            21 => Some(Refusal::PathList),
             number => panic!(
                 "the library gave refusal number {number}, which this package does not know: \
                  libfogsignaller.a and the package are not of the same version"
@@ -183,6 +243,17 @@ impl fmt::Display for Refusal {
             Refusal::ListTooShort => {
                 write!(formatter, "the path list or the cut list is too short")
             }
+            Refusal::RoutesTooShort => {
+                write!(
+                    formatter,
+                    "the record list is shorter than one record a radio"
+                )
+            }
+            Refusal::PathList => write!(
+                formatter,
+                "there are more than 8 paths, or the path list does not hold that many disjoint \
+                 paths of radios of the map with the same first and the same last radio"
+            ),
         }
     }
 }
@@ -233,9 +304,55 @@ pub struct Message {
     pub to: u8,
 }
 
+/// What a radio is to the paths.
+#[derive(Clone, Copy, Debug, Default, PartialEq, Eq, Hash)]
+pub enum Role {
+    /// It is on no path.
+    #[default]
+    OffPaths,
+    /// It is on a path, between its ends.
+    OnPath,
+    /// It is S, where the paths begin.
+    Source,
+    /// It is T, where the paths end.
+    Sink,
+}
+
+/// The record that one radio is loaded with. Only with [`Role::OnPath`] it has the other three.
+#[derive(Clone, Copy, Debug, Default, PartialEq, Eq, Hash)]
+pub struct Route {
+    /// What the radio is to the paths.
+    pub role: Role,
+    /// The number of its path, from 1.
+    pub path: Option<u8>,
+    /// The radio before it, towards S.
+    pub before: Option<u8>,
+    /// The radio after it, towards T.
+    pub after: Option<u8>,
+}
+
+impl Route {
+    fn of(record: raw::Route) -> Route {
+        let role = match record.role {
+            0 => Role::OffPaths,
+            1 => Role::OnPath,
+            2 => Role::Source,
+            _ => Role::Sink,
+        };
+        let on_path = |field| (role == Role::OnPath).then_some(field);
+        Route {
+            role,
+            path: on_path(record.path),
+            before: on_path(record.before),
+            after: on_path(record.after),
+        }
+    }
+}
+
 /// What an accepted survey found. `Survey` owns its bytes; `Survey<&[u8]>` has lent ones.
 #[derive(Clone, Debug, PartialEq, Eq)]
 pub struct Survey<Bytes = Vec<u8>> {
+    radios: usize,
     wanted: usize,
     number_of_paths: usize,
     rounds: usize,
@@ -259,6 +376,24 @@ impl<Bytes: AsRef<[u8]>> Survey<Bytes> {
     pub fn paths(&self) -> Paths<'_> {
         Paths {
             left: self.number_of_paths,
+            bytes: self.paths.as_ref(),
+        }
+    }
+
+    /// The record of each radio, radio v's at place v; see [`routes_into`]. A survey's own paths
+    /// are in order, so only [`Refusal::RoutesTooShort`] can come.
+    pub fn routes_into<'records>(
+        &self,
+        records: &'records mut [Route],
+    ) -> Result<&'records [Route], Refusal> {
+        routes_into(&self.path_list(), records)
+    }
+
+    /// The paths as bytes.
+    pub fn path_list(&self) -> PathList<'_> {
+        PathList {
+            radios: self.radios,
+            count: self.number_of_paths,
             bytes: self.paths.as_ref(),
         }
     }
@@ -342,6 +477,7 @@ pub fn survey(question: &Question) -> Result<Survey, Refusal> {
         },
     )?;
     Ok(Survey {
+        radios: found.radios,
         wanted: found.wanted,
         number_of_paths: found.number_of_paths,
         rounds: found.rounds,
@@ -392,11 +528,12 @@ pub fn survey_into<'buffers>(
         wanted: question.wanted,
     };
     let outcome = raw::fog_survey(&asked, lent.log, lent.paths, lent.cut);
-    if let Some(refusal) = Refusal::of(&outcome) {
+    if let Some(refusal) = Refusal::of(outcome.refusal, outcome.place) {
         return Err(refusal);
     }
     let (log, paths, cut): (&[u8], &[u8], &[u8]) = (lent.log, lent.paths, lent.cut);
     let found = Survey {
+        radios: question.radios,
         wanted: question.wanted,
         number_of_paths: outcome.paths,
         rounds: outcome.rounds,
@@ -411,4 +548,59 @@ pub fn survey_into<'buffers>(
         cut: &cut[..items],
         ..found
     })
+}
+
+/// A path list, a survey's own or one from elsewhere. The library judges all of it, so any numbers
+/// and any bytes may be given.
+#[derive(Clone, Copy, Debug, PartialEq, Eq)]
+pub struct PathList<'bytes> {
+    /// n, 2 to 64. Radios are numbered from 0.
+    pub radios: usize,
+    /// How many paths there are, at most 8.
+    pub count: usize,
+    /// For each path its number of radios and then the radios from S to T. What stands behind the
+    /// last path is not read.
+    pub bytes: &'bytes [u8],
+}
+
+/// Turns a path list into records, radio v's at place v, and gives those of the n radios. The lent
+/// list needs n records, for which [`ROUTES_ALWAYS_ENOUGH`] are enough; those past n stay as they
+/// were, and after a refusal all do. It allocates nothing.
+///
+/// ```
+/// use fogsignaller::{routes_into, PathList, Refusal, Role, Route};
+///
+/// // Four radios and two paths, 0-3 and 0-2-3.
+/// let mut list = PathList {
+///     radios: 4,
+///     count: 2,
+///     bytes: &[2, 0, 3, 3, 0, 2, 3],
+/// };
+/// let mut records = [Route::default(); 4];
+/// let routes = routes_into(&list, &mut records)?;
+/// let roles = [Role::Source, Role::OffPaths, Role::OnPath, Role::Sink];
+/// assert!(routes.iter().map(|route| route.role).eq(roles));
+/// assert_eq!(routes[2].path, Some(2));
+///
+/// // The direct link a second time.
+/// list.bytes = &[2, 0, 3, 2, 0, 3];
+/// assert_eq!(routes_into(&list, &mut records), Err(Refusal::PathList));
+/// # Ok::<(), fogsignaller::Refusal>(())
+/// ```
+pub fn routes_into<'records>(
+    list: &PathList,
+    records: &'records mut [Route],
+) -> Result<&'records [Route], Refusal> {
+    // The library's records have another shape; of a longer list it needs no more than these.
+    let mut filled = [raw::Route::default(); ROUTES_ALWAYS_ENOUGH];
+    let lent = records.len().min(ROUTES_ALWAYS_ENOUGH);
+    let refusal = raw::fog_routes(list.radios, list.count, list.bytes, &mut filled[..lent]);
+    if let Some(refusal) = Refusal::of(refusal, 0) {
+        return Err(refusal);
+    }
+    let routes = &mut records[..list.radios];
+    for (route, record) in routes.iter_mut().zip(filled) {
+        *route = Route::of(record);
+    }
+    Ok(routes)
 }

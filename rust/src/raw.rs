@@ -1,9 +1,12 @@
-//! The library's one call as it is exported; see include/fogsignaller.h.
+//! The library's calls as they are exported; see include/fogsignaller.h.
 //!
-//! Nothing checks this declaration against the library, so it stands here once: the wrapper, the
-//! comparison in tests/ and the measurements in bench/ all take it from this file.
+//! Nothing checks these declarations against the library, so they stand here once: the wrapper, the
+//! comparison in tests/ and the measurements in bench/ all take them from this file.
 
-/// The numbers that a call returns.
+// Each of these makes the calls that it needs.
+#![allow(dead_code)]
+
+/// The numbers that a survey returns.
 #[repr(C)]
 #[derive(Clone, Copy, Debug, PartialEq, Eq)]
 pub struct Outcome {
@@ -12,6 +15,17 @@ pub struct Outcome {
     pub paths: usize,
     pub rounds: usize,
     pub messages: usize,
+}
+
+/// The record of one radio; all zeros for a radio on no path.
+#[repr(C)]
+#[derive(Clone, Copy, Debug, Default, PartialEq, Eq)]
+pub struct Route {
+    /// 0 on no path, 1 on a path, 2 source, 3 sink.
+    pub role: u8,
+    pub path: u8,
+    pub before: u8,
+    pub after: u8,
 }
 
 mod exported {
@@ -30,6 +44,15 @@ mod exported {
             cut: *mut u8,
             cut_len: usize,
         ) -> super::Outcome;
+
+        pub fn fog_routes(
+            n: usize,
+            count: usize,
+            paths: *const u8,
+            paths_len: usize,
+            routes: *mut super::Route,
+            routes_len: usize,
+        ) -> usize;
     }
 }
 
@@ -61,6 +84,21 @@ pub fn fog_survey(asked: &Asked, log: &mut [u8], paths: &mut [u8], cut: &mut [u8
             paths.len(),
             cut.as_mut_ptr(),
             cut.len(),
+        )
+    }
+}
+
+/// Makes the call and gives the refusal number. Where that is 0, the first n records are written.
+pub fn fog_routes(radios: usize, count: usize, paths: &[u8], routes: &mut [Route]) -> usize {
+    // SAFETY: as for `fog_survey`; `Route` has the shape of the library's record.
+    unsafe {
+        exported::fog_routes(
+            radios,
+            count,
+            paths.as_ptr(),
+            paths.len(),
+            routes.as_mut_ptr(),
+            routes.len(),
         )
     }
 }

@@ -2,6 +2,7 @@
 
 use crate::capture::capture_of;
 use crate::chance::Chance;
+use crate::guarded::Guarded;
 use crate::lines::{write_asked, write_left};
 use crate::outcome::run_checked;
 use crate::raw;
@@ -60,44 +61,7 @@ fn followed_by_zeros(mut used: Vec<u8>, length: usize) -> Vec<u8> {
     used
 }
 
-/// A buffer that stands between guard bytes, filled with what must not be there afterwards.
-struct Guarded {
-    bytes: Vec<u8>,
-    start: usize,
-    length: usize,
-}
-
-const FEWEST_GUARDS: usize = 64;
 const GUARD_BYTE: u8 = 0xC3;
-
-impl Guarded {
-    fn new(length: usize, fill: Fill, chance: &mut Chance) -> Guarded {
-        // Any place in memory will do for the library, even ones not divisible by 8.
-        let start = FEWEST_GUARDS + chance.below(8);
-        let mut bytes = vec![GUARD_BYTE; start + length + FEWEST_GUARDS];
-        for byte in &mut bytes[start..start + length] {
-            *byte = fill.byte(chance);
-        }
-        Guarded {
-            bytes,
-            start,
-            length,
-        }
-    }
-
-    fn lend(&mut self) -> &mut [u8] {
-        &mut self.bytes[self.start..self.start + self.length]
-    }
-
-    fn take(self, name: &str) -> Result<Vec<u8>, String> {
-        let (before, rest) = self.bytes.split_at(self.start);
-        let (lent, after) = rest.split_at(self.length);
-        if before.iter().chain(after).any(|&byte| byte != GUARD_BYTE) {
-            return Err(format!("the library wrote outside its {name} buffer"));
-        }
-        Ok(lent.to_vec())
-    }
-}
 
 #[derive(Clone, Copy, Debug)]
 pub enum Fill {
@@ -115,14 +79,20 @@ impl Fill {
             Fill::Random => chance.next() as u8,
         }
     }
+
+    /// A buffer filled with what must not be there afterwards.
+    fn buffer(self, length: usize, chance: &mut Chance) -> Guarded<u8> {
+        let held: Vec<u8> = (0..length).map(|_| self.byte(chance)).collect();
+        Guarded::new(&held, GUARD_BYTE, chance)
+    }
 }
 
 /// What the library leaves. An error tells of bytes that it may not touch.
 fn got(call: &Call, fill: Fill, chance: &mut Chance) -> Result<Left, String> {
     let lengths = call.lengths;
-    let mut log = Guarded::new(lengths.log, fill, chance);
-    let mut paths = Guarded::new(lengths.paths, fill, chance);
-    let mut cut = Guarded::new(lengths.cut, fill, chance);
+    let mut log = fill.buffer(lengths.log, chance);
+    let mut paths = fill.buffer(lengths.paths, chance);
+    let mut cut = fill.buffer(lengths.cut, chance);
     let table = call.table.clone();
     let asked = raw::Asked {
         radios: call.radios,
@@ -157,6 +127,18 @@ pub enum Difference {
     Left,
 }
 
+impl Difference {
+    pub fn describe(self) -> String {
+        match self {
+            Difference::Second(fault) => {
+                format!("the second program failed its own check: {fault}")
+            }
+            Difference::Touched(fault) => fault,
+            Difference::Left => "the library differs from the second program".to_string(),
+        }
+    }
+}
+
 impl Trial {
     /// The fill's random bytes and the places in memory do not come from the trial's own chance,
     /// so that a trial made smaller is still the same trial.
@@ -184,11 +166,7 @@ impl Trial {
     pub fn what_differs(&self) -> String {
         match self.compare() {
             Ok(_) => "differed once and not again".to_string(),
-            Err(Difference::Second(fault)) => {
-                format!("the second program failed its own check: {fault}")
-            }
-            Err(Difference::Touched(fault)) => fault,
-            Err(Difference::Left) => "the library differs from the second program".to_string(),
+            Err(difference) => difference.describe(),
         }
     }
 

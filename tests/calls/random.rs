@@ -30,7 +30,7 @@ pub fn trial_of(seed: u64, number: usize) -> Trial {
 }
 
 /// In order but for the number of links, which may be 257.
-fn sound_call(chance: &mut Chance) -> Call {
+pub fn sound_call(chance: &mut Chance) -> Call {
     let radios = number_of_radios(chance);
     let pairs = random_pairs(chance, radios);
     let most_links = match chance.below(16) {

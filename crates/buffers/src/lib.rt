@@ -34,3 +34,10 @@ pub fn no_bytes() -> [u8; 128]
 {
     [0; 128]
 }
+
+// Four zeros for each radio.
+pub fn no_fields() -> [u8; 256]
+    ensures { λ r. ⌜ r ≡ replicate 256 0 ⌝ }
+{
+    [0; 256]
+}

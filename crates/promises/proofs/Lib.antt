@@ -1,2 +1,3 @@
 pub mod Settled
 pub mod Empty
+pub mod OwnPaths

@@ -1,1 +1,1 @@
-// Nothing is left to the builder's choice: theorems about the promise of the public call. There is no code here: see proofs/.
+// Nothing is left to the builder's choice: theorems about the promises of the public calls. There is no code here: see proofs/.

@@ -20,7 +20,7 @@ use Rattle.refusals.specs.Refusals.{Call, bad, badAt, badCell, firstBad,
 use Rattle.refusals.specs.Conditions.{Fault, no-bit, diagonal, mirror, FirstFault, sizeConditions, mapConditions, pairConditions, roomConditions, conditions}
 use Rattle.refusals.specs.declared.Finding.the-variants.{Sound, Bad}
 use Rattle.refusals.specs.declared.Verdict.{Verdict}
-use Rattle.refusals.specs.declared.Verdict.the-variants.{Accepted, Radios, TableLength, Cell, Links, Ends, Wanted, Log, Lists}
+use Rattle.refusals.specs.declared.Verdict.the-variants.{Accepted, Radios, TableLength, Cell, Links, Ends, Wanted, Log, Lists, Records, PathList}
 
 -- ---- the table's cells
 
@@ -196,3 +196,5 @@ no-place Ends h = refl
 no-place Wanted h = refl
 no-place Log h = refl
 no-place Lists h = refl
+no-place Records h = refl
+no-place PathList h = refl

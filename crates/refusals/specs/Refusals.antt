@@ -11,7 +11,7 @@ use Rattle.log.specs.Bytes.{messageBytes}
 use Rattle.refusals.specs.declared.Finding.{Finding}
 use Rattle.refusals.specs.declared.Finding.the-variants.{Sound, Bad}
 use Rattle.refusals.specs.declared.Verdict.{Verdict}
-use Rattle.refusals.specs.declared.Verdict.the-variants.{Accepted, Radios, TableLength, Cell, Links, Ends, Wanted, Log, Lists}
+use Rattle.refusals.specs.declared.Verdict.the-variants.{Accepted, Radios, TableLength, Cell, Links, Ends, Wanted, Log, Lists, Records, PathList}
 
 -- what a caller hands over: the map and its ends, the number of paths wanted, and the lengths of the three lent buffers
 pub record Call : Type 0 where
@@ -71,6 +71,8 @@ number Ends = 5
 number Wanted = 6
 number Log = 7
 number Lists = 8
+number Records = 20
+number PathList = 21
 
 -- its place: only a cell has one
 abbrev pub placeOf : Verdict → ℕ
@@ -83,6 +85,8 @@ placeOf Ends = 0
 placeOf Wanted = 0
 placeOf Log = 0
 placeOf Lists = 0
+placeOf Records = 0
+placeOf PathList = 0
 
 -- ---- the first reason against a call
 

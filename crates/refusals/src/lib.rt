@@ -22,6 +22,8 @@ pub enum Verdict {
     Wanted,
     Log,
     Lists,
+    Records,
+    PathList,
 }
 
 // Document 01's number of a verdict.
@@ -38,6 +40,8 @@ pub fn number_of(verdict: Verdict) -> usize
         Verdict::Wanted => 6,
         Verdict::Log => 7,
         Verdict::Lists => 8,
+        Verdict::Records => 20,
+        Verdict::PathList => 21,
     }
 }
 
@@ -55,6 +59,8 @@ pub fn place_of(verdict: Verdict) -> usize
         Verdict::Wanted => 0,
         Verdict::Log => 0,
         Verdict::Lists => 0,
+        Verdict::Records => 0,
+        Verdict::PathList => 0,
     }
 }
 

@@ -15,7 +15,7 @@ use Rattle.site.specs.Limits.{mostRadios}
 use Rattle.site.specs.Paths.{Meets}
 use Rattle.refusals.specs.Refusals.{Call, callOf, number, verdict}
 use Rattle.refusals.specs.declared.Verdict.{Verdict}
-use Rattle.refusals.specs.declared.Verdict.the-variants.{Accepted, Radios, TableLength, Cell, Links, Ends, Wanted, Log, Lists}
+use Rattle.refusals.specs.declared.Verdict.the-variants.{Accepted, Radios, TableLength, Cell, Links, Ends, Wanted, Log, Lists, Records, PathList}
 use Rattle.refusals.proofs.Accepted.{accepted-room}
 use Rattle.outcome.specs.declared.Outcome.{Outcome}
 use Rattle.outcome.specs.Leaves.{pathsFound, cutFound, pathsLeft, cutLeft, outcome}
@@ -83,6 +83,8 @@ number-small Ends = omega arith
 number-small Wanted = omega arith
 number-small Log = omega arith
 number-small Lists = omega arith
+number-small Records = omega arith
+number-small PathList = omega arith
 
 -- two lists in order have one length
 one-length : {A B : Type 0} (R : A → B → Type 0) (list : List A) (others : List B) → InOrder R list others → length list ≡ length others

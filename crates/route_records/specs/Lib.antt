@@ -1,0 +1,4 @@
+pub mod Records
+pub mod Filling
+pub mod Promise
+pub mod Told
