@@ -7,7 +7,7 @@ use Prim.Native.Nat.{ℕ, zero, suc, _+_, _≤_, _<_}
 use native.Mathlib.Nat.{not-suc-le-zero}
 use native.Mathlib.Omega.{arith}
 use lib.Dec.{eqb}
-use lib.ListN.{length, getD}
+use lib.ListN.{length, getD, replicate}
 use borrow.Author.Tests.{eqb-true, eq-eqb, ne-eqb}
 use Rattle.basics.specs.Counting.{oneIf, sum, count}
 use Rattle.basics.specs.Lists.{among, Different, All, AnyTwo}
@@ -244,3 +244,11 @@ all-at P (x ∷ list) (suc i) other all l = all-at P list i other (all .1) (omeg
 pub all-from : (P : ℕ → Type 0) (list : List ℕ) → ((x : ℕ) → among x list ≡ true → P x) → All P list
 all-from P [] holds = tt
 all-from P (x ∷ list) holds = (holds x (among-here x list), all-from P list (λ y h. holds y (among-there y x list h)))
+
+-- ---- one number over and over
+
+-- every place reads it, and past the end it is what is read anyway
+pub same-everywhere : (a n i : ℕ) → getD (replicate n a) i a ≡ a
+same-everywhere a zero i = refl
+same-everywhere a (suc n) zero = refl
+same-everywhere a (suc n) (suc i) = same-everywhere a n i

@@ -2,7 +2,7 @@
 use mathlib.Core.Path.{_≡_, refl, sym, ap, _∙_}
 use mathlib.Core.Bool.{true, false, _&&_, and-false}
 use mathlib.Core.List.{List}
-use Prim.Native.Nat.{ℕ, zero, suc, _+_, _*_, _<_}
+use Prim.Native.Nat.{ℕ, _+_, _*_, _<_}
 use native.Mathlib.Decide.{ℕ-discrete, decLt}
 use native.Mathlib.Omega.{arith}
 use lib.Dec.{eqb, ltb}
@@ -10,6 +10,7 @@ use lib.ListN.{getD, set, length, replicate}
 use lib.Seq.{getD-set-same, getD-set-other}
 use borrow.Author.Tests.{eq-eqb, ne-eqb, lt-ltb, le-ltb}
 use Rattle.basics.proofs.Bools.{not-true→false}
+use Rattle.basics.proofs.Lists.{same-everywhere}
 use Rattle.radios.specs.Member.{member}
 use Rattle.radios.proofs.Laws.{member-empty}
 use Rattle.site.specs.Map.{Site, inHalf, outHalf, passes, step}
@@ -60,13 +61,8 @@ out-starts site u x is v = is v ∙ sym (rw (from-out u v) (walk-unmarked site (
 abbrev pub FilledTo : Site → List ℕ → ℕ → Type 0
 FilledTo site rows k = (h v : ℕ) → member v (getD rows h 0) ≡ (ltb h k && mayWalk site unmarked h (across h v))
 
-zeros : (n i : ℕ) → _≡_ {A = ℕ} (getD (replicate n 0) i 0) 0
-zeros zero i = refl
-zeros (suc n) zero = refl
-zeros (suc n) (suc i) = zeros n i
-
 pub none-filled : (site : Site) (rows : List ℕ) → rows ≡ replicate 128 0 → FilledTo site rows 0
-none-filled site rows e h v = rw (e, zeros 128 h, le-ltb h 0 (omega arith)) (member-empty v)
+none-filled site rows e h v = rw (e, same-everywhere 0 128 h, le-ltb h 0 (omega arith)) (member-empty v)
 
 pub one-more : (site : Site) (rows : List ℕ) (k x : ℕ) → k < length rows → StartsAt site k x → FilledTo site rows k → FilledTo site (set rows k x) (k + 1)
 one-more site rows k x l is filled h v = pick (ℕ-discrete h k) (decLt h k)

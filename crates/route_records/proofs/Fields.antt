@@ -3,7 +3,7 @@ use mathlib.Core.Path.{_≡_, refl, sym, ap, _∙_, subst}
 use mathlib.Core.Bool.{Bool, true, false, cond}
 use mathlib.Core.List.{List, [], _∷_}
 use mathlib.Core.Logic.{_⊎_, inl, inr}
-use Prim.Native.Nat.{ℕ, zero, suc, _+_, _*_, _≤_, _<_}
+use Prim.Native.Nat.{ℕ, suc, _+_, _*_, _≤_, _<_}
 use native.Mathlib.Decide.{ℕ-discrete}
 use native.Mathlib.Omega.{arith}
 use lib.Dec.{eqb, ltb}
@@ -12,11 +12,12 @@ use lib.Seq.{getD-set-same, getD-set-other}
 use borrow.Author.Tests.{eq-eqb, ne-eqb, lt-ltb, le-ltb, ltb-true, ltb-false}
 use Rattle.basics.specs.Lists.{Different}
 use Rattle.basics.proofs.Bools.{both-ways}
+use Rattle.basics.proofs.Lists.{same-everywhere}
 use Rattle.path_lists.specs.Judge.{SoundLists}
-use Rattle.route_records.specs.declared.Role.the-variants.{NoPath}
+use Rattle.route_records.specs.declared.Role.the-variants.{OffPaths}
 use Rattle.route_records.specs.declared.Route.{Route}
 use Rattle.route_records.specs.Records.{alone, placeIn, recordAt, recordFrom, recordOf}
-use Rattle.route_records.specs.Filling.{routeAt, Put}
+use Rattle.route_records.specs.Filling.{recordFields, mostFields, routeAt, Put, PathLaid}
 use Rattle.route_records.proofs.Places.{at-place, place-of}
 use Rattle.route_records.proofs.Told.{on-path}
 
@@ -24,41 +25,41 @@ use Rattle.route_records.proofs.Told.{on-path}
 
 module _ (fields : List ℕ) (v : ℕ) (route : Route) where
   abbrev one : List ℕ
-  one = set fields (4 * v) (route .role)
+  one = set fields (recordFields * v) (route .role)
 
   abbrev two : List ℕ
-  two = set one (4 * v + 1) (route .path)
+  two = set one (recordFields * v + 1) (route .path)
 
   abbrev three : List ℕ
-  three = set two (4 * v + 2) (route .before)
+  three = set two (recordFields * v + 2) (route .before)
 
   abbrev pub stored : List ℕ
-  stored = set three (4 * v + 3) (route .after)
+  stored = set three (recordFields * v + 3) (route .after)
 
   -- another radio's fields stand elsewhere
-  elsewhere : (w j : ℕ) → (w ≡ v → ⊥) → 4 * w ≤ j → j < 4 * w + 4 → getD stored j 0 ≡ getD fields j 0
+  elsewhere : (w j : ℕ) → (w ≡ v → ⊥) → recordFields * w ≤ j → j < recordFields * w + recordFields → getD stored j 0 ≡ getD fields j 0
   elsewhere w j other from below =
-      getD-set-other three (4 * v + 3) j (route .after) 0 (λ e. other (omega arith))
-      ∙ getD-set-other two (4 * v + 2) j (route .before) 0 (λ e. other (omega arith))
-      ∙ getD-set-other one (4 * v + 1) j (route .path) 0 (λ e. other (omega arith))
-      ∙ getD-set-other fields (4 * v) j (route .role) 0 (λ e. other (omega arith))
+      getD-set-other three (recordFields * v + 3) j (route .after) 0 (λ e. other (omega arith))
+      ∙ getD-set-other two (recordFields * v + 2) j (route .before) 0 (λ e. other (omega arith))
+      ∙ getD-set-other one (recordFields * v + 1) j (route .path) 0 (λ e. other (omega arith))
+      ∙ getD-set-other fields (recordFields * v) j (route .role) 0 (λ e. other (omega arith))
 
-  its-own : 4 * v + 4 ≤ length fields → routeAt stored v ≡ route
+  its-own : recordFields * v + recordFields ≤ length fields → routeAt stored v ≡ route
   its-own room =
       rw (
-        getD-set-same three (4 * v + 3) (route .after) 0 (simp length-set (omega arith)),
-        getD-set-other three (4 * v + 3) (4 * v + 2) (route .after) 0 (λ e. omega arith),
-        getD-set-same two (4 * v + 2) (route .before) 0 (simp length-set (omega arith)),
-        getD-set-other three (4 * v + 3) (4 * v + 1) (route .after) 0 (λ e. omega arith),
-        getD-set-other two (4 * v + 2) (4 * v + 1) (route .before) 0 (λ e. omega arith),
-        getD-set-same one (4 * v + 1) (route .path) 0 (simp length-set (omega arith)),
-        getD-set-other three (4 * v + 3) (4 * v) (route .after) 0 (λ e. omega arith),
-        getD-set-other two (4 * v + 2) (4 * v) (route .before) 0 (λ e. omega arith),
-        getD-set-other one (4 * v + 1) (4 * v) (route .path) 0 (λ e. omega arith),
-        getD-set-same fields (4 * v) (route .role) 0 (omega arith),
+        getD-set-same three (recordFields * v + 3) (route .after) 0 (simp length-set (omega arith)),
+        getD-set-other three (recordFields * v + 3) (recordFields * v + 2) (route .after) 0 (λ e. omega arith),
+        getD-set-same two (recordFields * v + 2) (route .before) 0 (simp length-set (omega arith)),
+        getD-set-other three (recordFields * v + 3) (recordFields * v + 1) (route .after) 0 (λ e. omega arith),
+        getD-set-other two (recordFields * v + 2) (recordFields * v + 1) (route .before) 0 (λ e. omega arith),
+        getD-set-same one (recordFields * v + 1) (route .path) 0 (simp length-set (omega arith)),
+        getD-set-other three (recordFields * v + 3) (recordFields * v) (route .after) 0 (λ e. omega arith),
+        getD-set-other two (recordFields * v + 2) (recordFields * v) (route .before) 0 (λ e. omega arith),
+        getD-set-other one (recordFields * v + 1) (recordFields * v) (route .path) 0 (λ e. omega arith),
+        getD-set-same fields (recordFields * v) (route .role) 0 (omega arith),
       ) refl
 
-  pub stored-puts : 4 * v + 4 ≤ length fields → Put fields v route stored
+  pub stored-puts : recordFields * v + recordFields ≤ length fields → Put fields v route stored
   stored-puts room w = go (ℕ-discrete w v)
     where
       go : Dec (w ≡ v) → routeAt stored w ≡ cond (eqb w v) route (routeAt fields w)
@@ -66,17 +67,13 @@ module _ (fields : List ℕ) (v : ℕ) (route : Route) where
       go (no other) =
           rw (
             ne-eqb w v other,
-            elsewhere w (4 * w) other (omega arith) (omega arith),
-            elsewhere w (4 * w + 1) other (omega arith) (omega arith),
-            elsewhere w (4 * w + 2) other (omega arith) (omega arith),
-            elsewhere w (4 * w + 3) other (omega arith) (omega arith),
+            elsewhere w (recordFields * w) other (omega arith) (omega arith),
+            elsewhere w (recordFields * w + 1) other (omega arith) (omega arith),
+            elsewhere w (recordFields * w + 2) other (omega arith) (omega arith),
+            elsewhere w (recordFields * w + 3) other (omega arith) (omega arith),
           ) refl
 
 -- ---- the records of one path
-
--- the fields with the first i radios of a path in them
-pub record PathLaid (number : ℕ) (path before : List ℕ) (i : ℕ) (after : List ℕ) : Type 0 where
-  pub route : (v : ℕ) → routeAt after v ≡ cond (ltb (placeIn path v) i) (recordAt number path (placeIn path v)) (routeAt before v)
 
 pub none-laid : {number : ℕ} {path fields : List ℕ} → PathLaid number path fields 0 fields
 none-laid {number} {path} {fields} = record { route = λ v. rw (le-ltb (placeIn path v) 0 (omega arith)) refl }
@@ -109,23 +106,18 @@ all-laid all laid = rw (← all) laid
 
 -- radio v has its record, or it is on none of the first i paths and has none yet
 abbrev SoFar : List (List ℕ) → ℕ → List ℕ → ℕ → Type 0
-SoFar paths i fields v = (routeAt fields v ≡ recordOf paths v) ⊎ ((routeAt fields v ≡ alone NoPath) × ((j : ℕ) → j < i → length (getD paths j []) ≤ placeIn (getD paths j []) v))
+SoFar paths i fields v = (routeAt fields v ≡ recordOf paths v) ⊎ ((routeAt fields v ≡ alone OffPaths) × ((j : ℕ) → j < i → length (getD paths j []) ≤ placeIn (getD paths j []) v))
 
 -- the fields with the first i of the paths in them
 pub record PathsLaid (paths : List (List ℕ)) (i : ℕ) (fields : List ℕ) : Type 0 where
   pub told : (v : ℕ) → SoFar paths i fields v
 
 -- before any path
-alike : (a n i : ℕ) → getD (replicate n a) i a ≡ a
-alike a zero i = refl
-alike a (suc n) zero = refl
-alike a (suc n) (suc i) = alike a n i
-
-pub no-path-laid : {paths : List (List ℕ)} {fields : List ℕ} → fields ≡ replicate 256 0 → PathsLaid paths 0 fields
+pub no-path-laid : {paths : List (List ℕ)} {fields : List ℕ} → fields ≡ replicate mostFields 0 → PathsLaid paths 0 fields
 no-path-laid {paths} {fields} none =
-    let zero-at : (k : ℕ) → getD fields k 0 ≡ 0 = λ k. rw none (alike 0 256 k) in
+    let zero-at : (k : ℕ) → getD fields k 0 ≡ 0 = λ k. rw none (same-everywhere 0 mostFields k) in
     record {
-      told = λ v. inr (rw (zero-at (4 * v), zero-at (4 * v + 1), zero-at (4 * v + 2), zero-at (4 * v + 3)) refl, λ j l. absurd (omega arith));
+      told = λ v. inr (rw (zero-at (recordFields * v), zero-at (recordFields * v + 1), zero-at (recordFields * v + 2), zero-at (recordFields * v + 3)) refl, λ j l. absurd (omega arith));
     }
 
 -- one path more: where a radio of it is on an earlier one too, its record stays what it is
@@ -150,7 +142,7 @@ one-more-path {n} {paths} {i} {path} {before} {after} sound below is-path laid n
             off-all j l (no other) = off .1 j (omega (arith, other))
 
 -- a radio on no path
-on-none : (number : ℕ) (paths : List (List ℕ)) (v : ℕ) → ((j : ℕ) → j < length paths → length (getD paths j []) ≤ placeIn (getD paths j []) v) → recordFrom number paths v ≡ alone NoPath
+on-none : (number : ℕ) (paths : List (List ℕ)) (v : ℕ) → ((j : ℕ) → j < length paths → length (getD paths j []) ≤ placeIn (getD paths j []) v) → recordFrom number paths v ≡ alone OffPaths
 unfolding recordFrom
 on-none number [] v off = refl
 on-none number (path ∷ paths) v off = rw (le-ltb (placeIn path v) (length path) (off 0 (omega arith))) (on-none (suc number) paths v (λ j l. off (suc j) (omega arith)))

@@ -16,10 +16,10 @@ use Rattle.path_lists.specs.Judge.{RadioList}
 use Rattle.path_lists.proofs.Judging.{sound-tells}
 use Rattle.path_lists.proofs.Read.{same-front}
 use Rattle.refusals.specs.Refusals.{number}
-use Rattle.route_records.specs.declared.Role.the-variants.{NoPath}
+use Rattle.route_records.specs.declared.Role.the-variants.{OffPaths}
 use Rattle.route_records.specs.declared.Route.{Route}
-use Rattle.route_records.specs.Records.{alone, recordFrom, recordOf, recordsOf, RoutesCall, routesVerdict, verdictOf, recordsLeft}
-use Rattle.route_records.specs.Filling.{Tellable, toFill, routeAt, routesIn, Laid}
+use Rattle.route_records.specs.Records.{alone, recordIn, recordFrom, recordOf, recordsOf, RoutesCall, routesVerdict, verdictOf, recordsLeft}
+use Rattle.route_records.specs.Filling.{Tellable, toFill, recordFields, mostFields, routeAt, routesIn, Laid}
 use Rattle.route_records.specs.Promise.{reading, RoutesPromise}
 use Rattle.route_records.proofs.Judged.{accepted, routes-exact}
 
@@ -62,10 +62,10 @@ tellable n records count refusal list told none =
         record { two-or-more = radios .two-or-more; different = radios .different; below = all-follow (λ v. v < n) (λ v. v < mostRadios) (λ v l. omega arith) path (radios .below); first = radios .first; last = radios .last }
 
 -- there is room for the records that are set, and a field for each
-pub fits : (n records count refusal m : ℕ) (list : List ℕ) → refusal ≡ number (routesVerdict n records count list) → m ≡ toFill refusal n → (m ≤ records) × (4 * m ≤ 256)
+pub fits : (n records count refusal m : ℕ) (list : List ℕ) → refusal ≡ number (routesVerdict n records count list) → m ≡ toFill refusal n → (m ≤ records) × (recordFields * m ≤ mostFields)
 fits n records count refusal m list told is = go (eqb refusal 0) refl is
   where
-    go : (b : Bool) → eqb refusal 0 ≡ b → m ≡ cond b n 0 → (m ≤ records) × (4 * m ≤ 256)
+    go : (b : Bool) → eqb refusal 0 ≡ b → m ≡ cond b n 0 → (m ≤ records) × (recordFields * m ≤ mostFields)
     go true e s =
         let a = accepted n records count list (sym told ∙ eqb-true _ _ e) in
         (omega (arith, a .room), omega (arith, a .few-radios))
@@ -103,10 +103,10 @@ module _ (call : RoutesCall) (refusal m : ℕ) (records : List Route) (told : re
       let same = same-front (call .count) (call .list) other agree in
       (rw (same .0, same .1) told, rw (same .0, same .1) left)
 
-  empty : refusal ≡ 0 → (v : ℕ) → v < call .n → call .count ≡ 0 → getD records v (alone NoPath) ≡ alone NoPath
+  empty : refusal ≡ 0 → (v : ℕ) → v < call .n → call .count ≡ 0 → recordIn records v ≡ alone OffPaths
   unfolding pathsRead recordFrom
   empty none v below zeros =
-      let is : getD records v (alone NoPath) ≡ recordOf paths v = rw (taken none) (first-records paths (call .n) (call .records) v (alone NoPath) below) in
+      let is : recordIn records v ≡ recordOf paths v = rw (taken none) (first-records paths (call .n) (call .records) v (alone OffPaths) below) in
       rw zeros at is
 
   keeps : RoutesPromise call refusal records
@@ -115,16 +115,16 @@ module _ (call : RoutesCall) (refusal m : ℕ) (records : List Route) (told : re
         refusal-is = told;
         records-are = left;
         lawful = routes-exact (call .n) (length (call .records)) (call .count) (call .list);
-        for-each = λ none v below. rw (taken none) (first-records paths (call .n) (call .records) v (alone NoPath) below);
+        for-each = λ none v below. rw (taken none) (first-records paths (call .n) (call .records) v (alone OffPaths) below);
         no-paths = λ none zeros v below. empty none v below zeros;
         past-n = λ v past. go (ℕ-discrete refusal 0) v past;
         unchanged = unchanged;
         past-unread = alike;
       }
     where
-      go : Dec (refusal ≡ 0) → (v : ℕ) → call .n ≤ v → getD records v (alone NoPath) ≡ getD (call .records) v (alone NoPath)
-      go (yes e) v past = rw (taken e) (later-records paths (call .n) (call .records) v (alone NoPath) past)
-      go (no ne) v past = ap (λ (list : List Route). getD list v (alone NoPath)) (unchanged ne)
+      go : Dec (refusal ≡ 0) → (v : ℕ) → call .n ≤ v → recordIn records v ≡ recordIn (call .records) v
+      go (yes e) v past = rw (taken e) (later-records paths (call .n) (call .records) v (alone OffPaths) past)
+      go (no ne) v past = ap (λ (list : List Route). recordIn list v) (unchanged ne)
 
 -- what is read off the fields are the records of the paths
 read-off : (fields : List ℕ) (paths : List (List ℕ)) (n : ℕ) → n ≤ mostRadios → ((v : ℕ) → v < mostRadios → routeAt fields v ≡ recordOf paths v) → routesIn fields n ≡ recordsOf paths n

@@ -18,10 +18,10 @@ use Rattle.basics.proofs.Counting.{first-is}
 use Rattle.basics.proofs.Lists.{all-at, all-among, different-below}
 use Rattle.site.specs.Paths.{Disjoint}
 use Rattle.path_lists.specs.Judge.{RadioList, SoundLists}
-use Rattle.route_records.specs.declared.Role.the-variants.{NoPath, Source, Sink}
+use Rattle.route_records.specs.declared.Role.the-variants.{OffPaths, Source, Sink}
 use Rattle.route_records.specs.declared.Route.{Route}
-use Rattle.route_records.specs.Records.{alone, placeIn, recordAt, recordFrom, recordOf}
-use Rattle.route_records.specs.Told.{recordIn, firstWith, following, startOf, pathTold, pathsTold}
+use Rattle.route_records.specs.Records.{alone, recordIn, placeIn, recordAt, recordFrom, recordOf}
+use Rattle.route_records.specs.Told.{firstWith, following, startOf, pathTold, pathsTold}
 use Rattle.route_records.proofs.Places.{among-at, one-place, at-place, place-of}
 
 -- ---- the record at a place of a path
@@ -51,13 +51,13 @@ record Placed (paths : List (List ℕ)) (number : ℕ) (v : ℕ) (route : Route)
   gives : route ≡ recordAt (number + i) (getD paths i []) place
 
 -- either it is on no path, or it stands at one
-placed : (number : ℕ) (paths : List (List ℕ)) (v : ℕ) → (recordFrom number paths v ≡ alone NoPath) ⊎ Placed paths number v (recordFrom number paths v)
+placed : (number : ℕ) (paths : List (List ℕ)) (v : ℕ) → (recordFrom number paths v ≡ alone OffPaths) ⊎ Placed paths number v (recordFrom number paths v)
 unfolding recordFrom
 placed number [] v = inl refl
 placed number (path ∷ paths) v = go (ltb (placeIn path v) (length path)) refl (placed (suc number) paths v)
   where
-    go : (b : Bool) → ltb (placeIn path v) (length path) ≡ b → (recordFrom (suc number) paths v ≡ alone NoPath) ⊎ Placed paths (suc number) v (recordFrom (suc number) paths v)
-        → (cond b (recordAt number path (placeIn path v)) (recordFrom (suc number) paths v) ≡ alone NoPath) ⊎ Placed (path ∷ paths) number v (cond b (recordAt number path (placeIn path v)) (recordFrom (suc number) paths v))
+    go : (b : Bool) → ltb (placeIn path v) (length path) ≡ b → (recordFrom (suc number) paths v ≡ alone OffPaths) ⊎ Placed paths (suc number) v (recordFrom (suc number) paths v)
+        → (cond b (recordAt number path (placeIn path v)) (recordFrom (suc number) paths v) ≡ alone OffPaths) ⊎ Placed (path ∷ paths) number v (cond b (recordAt number path (placeIn path v)) (recordFrom (suc number) paths v))
     go true e later =
         let l = ltb-true _ _ e in
         inr (record { i = 0; place = placeIn path v; below = omega arith; there = l; is = at-place path v l; gives = ap (λ (k : ℕ). recordAt k path (placeIn path v)) (omega arith) })
@@ -120,7 +120,7 @@ module _ (n : ℕ) (paths : List (List ℕ)) (sound : SoundLists n paths) (recor
 
   -- what a radio is to the paths, and what its record says of it
   data Standing (v : ℕ) : Type 0 where
-    off : recordIn records v ≡ alone NoPath → Standing v
+    off : recordIn records v ≡ alone OffPaths → Standing v
     source : v ≡ S → recordIn records v ≡ alone Source → Standing v
     sink : v ≡ T → recordIn records v ≡ alone Sink → Standing v
     inner : (i place : ℕ) → i < length paths → 0 < place → place + 1 < length (getD paths i []) → getD (getD paths i []) place 0 ≡ v
@@ -138,7 +138,7 @@ module _ (n : ℕ) (paths : List (List ℕ)) (sound : SoundLists n paths) (recor
           sink (sym (p .is) ∙ ap (λ (k : ℕ). getD (getD paths (p .i) []) k 0) (omega (arith, e)) ∙ path-is (p .i) (p .below) .last) (are v below ∙ p .gives ∙ at-sink (1 + p .i) (getD paths (p .i) []) (p .place) ne e)
       at p (no ne) (no more) = inner (p .i) (p .place) (p .below) (omega (arith, ne)) (omega (arith, more, p .there)) (p .is) (are v below ∙ p .gives ∙ at-inner (1 + p .i) (getD paths (p .i) []) (p .place) ne more)
 
-      go : (recordOf paths v ≡ alone NoPath) ⊎ Placed paths 1 v (recordOf paths v) → Standing v
+      go : (recordOf paths v ≡ alone OffPaths) ⊎ Placed paths 1 v (recordOf paths v) → Standing v
       go (inl none) = off (are v below ∙ none)
       go (inr p) = at p (ℕ-discrete (p .place) 0) (ℕ-discrete (p .place + 1) (length (getD paths (p .i) [])))
 

@@ -4,7 +4,7 @@ use mathlib.Core.Bool.{true, cond}
 use mathlib.Core.List.{List, [], _∷_, _++_}
 use Prim.Native.Nat.{ℕ, zero, suc, _+_, _*_, _≤_, _<_}
 use lib.Dec.{eqb, ltb}
-use lib.ListN.{length, getD}
+use lib.ListN.{getD}
 use Rattle.site.specs.Limits.{mostRadios, mostPaths}
 use Rattle.path_lists.specs.Reading.{readable, pathsRead}
 use Rattle.path_lists.specs.Judge.{SoundLists}
@@ -23,9 +23,17 @@ pub record Tellable (count : ℕ) (list : List ℕ) : Type 0 where
 
 -- ---- every radio's four fields, one radio after another
 
+-- role, path, before and after
+abbrev pub recordFields : ℕ
+recordFields = 4
+
+-- those of as many radios as there can be
+abbrev pub mostFields : ℕ
+mostFields = recordFields * mostRadios
+
 -- the record whose fields stand at radio v's place
 abbrev pub routeAt : List ℕ → ℕ → Route
-routeAt fields v = record { role = getD fields (4 * v) 0; path = getD fields (4 * v + 1) 0; before = getD fields (4 * v + 2) 0; after = getD fields (4 * v + 3) 0 }
+routeAt fields v = record { role = getD fields (recordFields * v) 0; path = getD fields (recordFields * v + 1) 0; before = getD fields (recordFields * v + 2) 0; after = getD fields (recordFields * v + 3) 0 }
 
 -- those of the first n radios
 unfoldable pub routesIn : List ℕ → ℕ → List Route
@@ -36,9 +44,9 @@ routesIn fields (suc n) = routesIn fields n ++ (routeAt fields n ∷ [])
 abbrev pub Put : List ℕ → ℕ → Route → List ℕ → Type 0
 Put before v route after = (w : ℕ) → routeAt after w ≡ cond (eqb w v) route (routeAt before w)
 
--- each radio of the path with this number has its record there, all others as before
-abbrev pub PathPut : ℕ → List ℕ → List ℕ → List ℕ → Type 0
-PathPut number path before after = (v : ℕ) → routeAt after v ≡ cond (ltb (placeIn path v) (length path)) (recordAt number path (placeIn path v)) (routeAt before v)
+-- each of the first i radios of the path with this number has its record there, all others as before
+pub record PathLaid (number : ℕ) (path before : List ℕ) (i : ℕ) (after : List ℕ) : Type 0 where
+  pub route : (v : ℕ) → routeAt after v ≡ cond (ltb (placeIn path v) i) (recordAt number path (placeIn path v)) (routeAt before v)
 
 -- every radio's fields by the paths of the list, after a call that is not refused
 pub record Laid (refusal count : ℕ) (list fields : List ℕ) : Type 0 where

@@ -16,14 +16,14 @@ use Rattle.refusals.specs.Conditions.{sizeConditions}
 use Rattle.refusals.specs.declared.Verdict.{Verdict}
 use Rattle.refusals.specs.declared.Verdict.the-variants.{Records, PathList}
 use Rattle.route_records.specs.declared.Role.{Role}
-use Rattle.route_records.specs.declared.Role.the-variants.{NoPath, OnPath, Source, Sink}
+use Rattle.route_records.specs.declared.Role.the-variants.{OffPaths, OnPath, Source, Sink}
 use Rattle.route_records.specs.declared.Route.{Route}
 
 -- ---- a record
 
 -- the number of each role
 abbrev pub roleNumber : Role → ℕ
-roleNumber NoPath = 0
+roleNumber OffPaths = 0
 roleNumber OnPath = 1
 roleNumber Source = 2
 roleNumber Sink = 3
@@ -31,6 +31,10 @@ roleNumber Sink = 3
 -- a radio with its role alone: the other fields are 0
 abbrev pub alone : Role → Route
 alone role = record { role = roleNumber role; path = 0; before = 0; after = 0 }
+
+-- the record of radio v in a list of them; past its end a radio is on no path
+abbrev pub recordIn : List Route → ℕ → Route
+recordIn records v = getD records v (alone OffPaths)
 
 -- ---- the record of a radio
 
@@ -47,7 +51,7 @@ recordAt number path i =
 
 -- the record of radio v, the paths having this number and those after it
 unfoldable pub recordFrom : ℕ → List (List ℕ) → ℕ → Route
-recordFrom number [] v = alone NoPath
+recordFrom number [] v = alone OffPaths
 recordFrom number (path ∷ paths) v = cond (ltb (placeIn path v) (length path)) (recordAt number path (placeIn path v)) (recordFrom (suc number) paths v)
 
 -- paths are numbered from 1

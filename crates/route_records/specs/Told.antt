@@ -3,15 +3,11 @@ use mathlib.Core.Bool.{_&&_, cond}
 use mathlib.Core.List.{List, [], _∷_, _++_}
 use Prim.Native.Nat.{ℕ, zero, suc}
 use lib.Dec.{eqb, ltb}
-use lib.ListN.{getD}
 use Rattle.basics.specs.Counting.{firstFrom}
 use Rattle.route_records.specs.declared.Role.{Role}
-use Rattle.route_records.specs.declared.Role.the-variants.{NoPath, OnPath, Source, Sink}
+use Rattle.route_records.specs.declared.Role.the-variants.{OnPath, Source, Sink}
 use Rattle.route_records.specs.declared.Route.{Route}
-use Rattle.route_records.specs.Records.{roleNumber, alone}
-
-abbrev pub recordIn : List Route → ℕ → Route
-recordIn records v = getD records v (alone NoPath)
+use Rattle.route_records.specs.Records.{roleNumber, recordIn}
 
 -- the first of n radios that has this role
 abbrev pub firstWith : List Route → ℕ → Role → ℕ

@@ -9,16 +9,19 @@ ghost use Rattle.basics.specs.Lists.{All, Different};
 ghost use Rattle.site.specs.Limits.{mostRadios, mostPaths};
 ghost use Rattle.refusals.specs.Refusals.{number};
 ghost use Rattle.route_records.specs.Records.{roleNumber, alone, recordAt, routesVerdict};
-ghost use Rattle.route_records.specs.Filling.{Tellable, toFill, routeAt, routesIn, Put, PathPut, Laid};
+ghost use Rattle.route_records.specs.Filling.{Tellable, toFill, recordFields, routeAt, routesIn, Put, PathLaid, Laid};
 ghost use Rattle.route_records.specs.Promise.{RoutesPromise};
 use refusals::Verdict;
 
 // A record has so many fields, each a byte.
-const FIELDS: usize = 4;
+const RECORD_FIELDS: usize = 4;
+
+// Those of as many radios as there can be.
+const MOST_FIELDS: usize = RECORD_FIELDS * site::MOST_RADIOS;
 
 // What a radio is to the paths.
 pub enum Role {
-    NoPath,
+    OffPaths,
     OnPath,
     Source,
     Sink,
@@ -38,7 +41,7 @@ fn role_number(role: Role) -> u8
     ensures { λ r. ⌜ r ≡ roleNumber role ⌝ }
 {
     match role {
-        Role::NoPath => 0,
+        Role::OffPaths => 0,
         Role::OnPath => 1,
         Role::Source => 2,
         Role::Sink => 3,
@@ -77,12 +80,12 @@ fn record_at(path: &[u8], number: usize, i: usize) -> Route
 }
 
 // Radio v's fields become those of a record.
-fn put(fields: &mut [u8; 256], v: usize, route: Route)
+fn put(fields: &mut [u8; MOST_FIELDS], v: usize, route: Route)
     requires { ⌜ v < mostRadios ⌝ }
     ensures { λ r. ⌜ Put (now (fields .entry)) v route (now (fields .exit)) ⌝ }
 {
     let s = &mut fields[..];
-    let at = FIELDS * v;
+    let at = RECORD_FIELDS * v;
     s[at] = route.role;
     s[at + 1] = route.path;
     s[at + 2] = route.before;
@@ -90,10 +93,10 @@ fn put(fields: &mut [u8; 256], v: usize, route: Route)
 }
 
 // Each radio of the path with this number gets its fields; those of the others stay.
-fn put_path(fields: &mut [u8; 256], path: &[u8], number: usize)
+fn put_path(fields: &mut [u8; MOST_FIELDS], path: &[u8], number: usize)
     requires { ⌜ number ≤ mostPaths ⌝ }
     requires { ⌜ All (λ v. v < mostRadios) (now path) × Different (now path) ⌝ }
-    ensures { λ r. ⌜ PathPut number (now (path .entry)) (now (fields .entry)) (now (fields .exit)) ⌝ }
+    ensures { λ r. ⌜ PathLaid number (now (path .entry)) (now (fields .entry)) (length (now (path .entry))) (now (fields .exit)) ⌝ }
 {
     for i in 0..path.len() {
         put(fields, path[i] as usize, record_at(path, number, i));
@@ -101,7 +104,7 @@ fn put_path(fields: &mut [u8; 256], path: &[u8], number: usize)
 }
 
 // Every radio's four fields, one radio after another, by the first `count` paths of the list; all 0 after a refusal.
-fn fields_of(refusal: usize, count: usize, paths: &[u8]) -> [u8; 256]
+fn fields_of(refusal: usize, count: usize, paths: &[u8]) -> [u8; MOST_FIELDS]
     requires { ⌜ (refusal ≡ 0 → Tellable count (now paths)) ⌝ }
     ensures { λ r. ⌜ Laid refusal count (now (paths .entry)) r ⌝ }
 {
@@ -122,10 +125,10 @@ fn fields_of(refusal: usize, count: usize, paths: &[u8]) -> [u8; 256]
 
 // The record whose fields stand at radio v's place.
 fn route_at(fields: &[u8], v: usize) -> Route
-    requires { ⌜ 4 * v + 4 ≤ length (now fields) ⌝ }
+    requires { ⌜ recordFields * v + recordFields ≤ length (now fields) ⌝ }
     ensures { λ r. ⌜ r ≡ routeAt (now (fields .entry)) v ⌝ }
 {
-    let at = FIELDS * v;
+    let at = RECORD_FIELDS * v;
     Route {
         role: fields[at],
         path: fields[at + 1],
@@ -180,7 +183,7 @@ fn set_route(routes: &mut [Route], v: usize, route: Route)
 // Sets the first n records to those that the fields tell; the others stay.
 fn fill(routes: &mut [Route], n: usize, fields: &[u8])
     requires { ⌜ n ≤ length (now routes) ⌝ }
-    requires { ⌜ 4 * n ≤ length (now fields) ⌝ }
+    requires { ⌜ recordFields * n ≤ length (now fields) ⌝ }
     ensures { λ r. ⌜ now (routes .exit) ≡ routesIn (now (fields .entry)) n ++ drop n (now (routes .entry)) ⌝ }
 {
     let mut v = 0;

@@ -55,7 +55,7 @@ loop-again : tie.Need-loop-again Inv-loop μ-loop
 loop-again c = (
   omega arith,
   stands (search) .next,
-  one-more-path (tellable (search) .sound) (omega (arith, held (search) .number)) (stands (search) .radios) (past tie.At-loop (search) .loop .inv .2) (record { route = c .put-path .ensures }),
+  one-more-path (tellable (search) .sound) (omega (arith, held (search) .number)) (stands (search) .radios) (past tie.At-loop (search) .loop .inv .2) (c .put-path .ensures),
 )
 
 returns-2 : tie.Need-returns-2 Inv-loop μ-loop

@@ -50,7 +50,7 @@ use denote.Triple.Walked.{says, needs, Stays, stay-none, stay-none-slice, stay-s
 use denote.Exit.{yes}
 use borrow.Author.Tests.{lt-ltb, le-ltb}
 use Rattle.route_records.specs.declared.Route.{Route}
-use Rattle.route_records.specs.Filling.{routeAt}
+use Rattle.route_records.specs.Filling.{recordFields, routeAt}
 use Rattle.route_records.proofs.Again.{LentAgain, lends-again, comes-back}
 use Rattle.route_records.proofs.Filled.{filled, filled-none, length-filled, filled-next}
 use Rattle.route_records.proofs.Route as T
@@ -171,7 +171,7 @@ module _ {M : Type 1} (𝓤 : URA M) (H : Heap 𝓤) (A : Atoms 𝓤) (W : Given
   abbrev to-route : ℕ → RouteAt 𝓤 H A at-mem run .Ghost
   to-route i = (((κ′, tt), (q′, tt), tt, (p, (i, tt)), passed i), tt)
 
-  goes-route : (i : ℕ) → i < 2 ^ 64 → 4 * i + 4 ≤ length told → ent 𝓤 (⋆ 𝓤 H A (‵ OwnP ∷ Alive ∷ [])) (sep 𝓤 (RouteAt 𝓤 H A at-mem run .pre (to-route i)) (sem 𝓤 H A OwnP))
+  goes-route : (i : ℕ) → i < 2 ^ 64 → recordFields * i + recordFields ≤ length told → ent 𝓤 (⋆ 𝓤 H A (‵ OwnP ∷ Alive ∷ [])) (sep 𝓤 (RouteAt 𝓤 H A at-mem run .pre (to-route i)) (sem 𝓤 H A OwnP))
   goes-route i i-fits there =
       qed W (‵ OwnP ∷ Alive ∷ []) ∵ use1 W (‵ OwnP ⊛ ‵ OwnP) (shr-slice-copy 𝓤 H A W (named 1) κ′ u8 .twice p (v ∷ [])) $ split ! $
       -- [fields; fields; the token]
@@ -192,7 +192,7 @@ module _ {M : Type 1} (𝓤 : URA M) (H : Heap 𝓤) (A : Atoms 𝓤) (W : Given
       nothing ! $ move ! (2 ∷ 0 ∷ []) $ fjoin ! $ owned ! usize (Is usize) (uint-makes 𝓤 H A W w64) i _ (refl, i-fits) $ fjoin ! $ move ! (1 ∷ 0 ∷ []) $ fjoin ! $ done !
 
   module _ (𝓣 : Tables 𝓤 H) (known-route : Triple 𝓤 (𝓣 .C #route-records·route-at) (RouteAt 𝓤 H A at-mem run)) (known-set : Triple 𝓤 (𝓣 .C #route-records·set-route) (SetRoute 𝓤 H A at-mem run))
-      (room : Room R (length ys)) (n-fits : n < 2 ^ 64) (enough : n ≤ length ys) (there : 4 * n ≤ length told) (l₀ l₁ l₂ l₃ l₄ l₅ l₆ l₇ l₈ l₉ : ℕ) where
+      (room : Room R (length ys)) (n-fits : n < 2 ^ 64) (enough : n ≤ length ys) (there : recordFields * n ≤ length told) (l₀ l₁ l₂ l₃ l₄ l₅ l₆ l₇ l₈ l₉ : ℕ) where
     abbrev C : Calls 𝓤 H
     C = 𝓣 .C
 
@@ -314,7 +314,7 @@ module _ {M : Type 1} (𝓤 : URA M) (H : Heap 𝓤) (A : Atoms 𝓤) (W : Given
 
   -- the MIR, up to the loop
   walk : (𝓣 : Tables 𝓤 H) → Triple 𝓤 (𝓣 .C #route-records·route-at) (RouteAt 𝓤 H A at-mem run) → Triple 𝓤 (𝓣 .C #route-records·set-route) (SetRoute 𝓤 H A at-mem run)
-      → Room R (length ys) → n < 2 ^ 64 → Is (ShrSlice (named 1) κ′ u8) p (v ∷ []) → n ≤ length ys → 4 * n ≤ length told
+      → Room R (length ys) → n < 2 ^ 64 → Is (ShrSlice (named 1) κ′ u8) p (v ∷ []) → n ≤ length ys → recordFields * n ≤ length told
       → ent 𝓤 (onEntry 𝓤 H A f.signature (κ, (κ′, tt)) (q, (q′, tt)) a vals) (WpFn 𝓤 H (𝓣 .C) (𝓣 .Λ) code.function (s (length ys) ∷ vint w64 n ∷ v ∷ []) Post)
   walk 𝓣 known-route known-set room n-fits is-p enough there =
       qed W ((‵ (flft κ q) ⊛ ‵ (flft κ′ q′) ⊛ ‵ ftrue) ∷ ‵ (owns (MutSlice (named 0) κ R ∷ usize ∷ ShrSlice (named 1) κ′ u8 ∷ []) a vals) ∷ []) ∵
@@ -334,7 +334,7 @@ module _ {M : Type 1} (𝓤 : URA M) (H : Heap 𝓤) (A : Atoms 𝓤) (W : Given
   fill-walks : Walks 𝓤 H A f.ended stayed (WpFn 𝓤 H (𝓣 .C) (𝓣 .Λ) code.function) (f.clauses 𝓤 H A mem run)
   fill-walks = walked 𝓤 H A f.ended stayed (f.clauses 𝓤 H A mem run) (WpFn 𝓤 H (𝓣 .C) (𝓣 .Λ) code.function)
       (λ κs. (slice-vals, (uint-vals w64, (slice-vals, tt)))) (λ κs. (mut-slice-tells (named 0) (κs .0) R, (uint-tells w64, (shr-slice-tells (named 1) (κs .1 .0) u8, tt))))
-      (λ κs qs bounds a g are. needs-both 𝓤 (a .1 .0 ≤ length (a .0 .now)) (4 * a .1 .0 ≤ length (now (a .1 .1 .0))) _
+      (λ κs qs bounds a g are. needs-both 𝓤 (a .1 .0 ≤ length (a .0 .now)) (recordFields * a .1 .0 ≤ length (now (a .1 .1 .0))) _
       (walk 𝓤 H A W mem run (κs .0) (κs .1 .0) bounds (qs .0) (qs .1 .0) (a .0 .ptr .0) (a .0 .ptr .1) (a .0 .name) (a .0 .now) (a .1 .0) (a .1 .1 .0) 𝓣 known-route known-set (are .0 .0 .1) (are .1 .0 .1) (are .1 .1 .0)))
 
   fill-meets : Meets 𝓤 H A f.signature (WpFn 𝓤 H (𝓣 .C) (𝓣 .Λ) code.function) (f.spec 𝓤 H A mem run)

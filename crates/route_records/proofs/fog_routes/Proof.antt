@@ -43,7 +43,7 @@ use denote.Exit.{yes}
 use Rattle.route_records.specs.declared.Route.{Route}
 use Rattle.refusals.specs.Refusals.{number}
 use Rattle.route_records.specs.Records.{RoutesCall, routesVerdict}
-use Rattle.route_records.specs.Filling.{Tellable, toFill, Laid}
+use Rattle.route_records.specs.Filling.{Tellable, toFill, recordFields, mostFields, Laid}
 use Rattle.route_records.specs.Promise.{RoutesPromise}
 use Rattle.route_records.proofs.Filled.{filled}
 use Rattle.route_records.proofs.SharedArray.{τ, Shared, shares-array, array-shared-back}
@@ -74,7 +74,7 @@ abbrev R : RattleType
 R = T.the-row
 
 abbrev Fields : RattleType
-Fields = Array u8 256
+Fields = Array u8 mostFields
 
 abbrev Arg : Type 0
 Arg = ℕ × (ℕ × (RefT (List ℕ) × (RefT (List Route) × Unit {0})))
@@ -83,8 +83,8 @@ abbrev stayed : Stays (f.ended .signature .params) (f.ended .kept)
 stayed = (stay-none (λ _. usize) yes, (stay-none (λ _. usize) yes, (stay-none-slice (0 ∷ []) tt (plain (λ _. u8)) yes, (gave-slice (1 ∷ []) tt (plain (λ _. R)), tt))))
 
 -- what a slice of the fields asks: its count and its bytes fit
-room-256 : {m : ℕ} → m ≡ 256 → (m < 2 ^ 64) × (m * 1 < 2 ^ 63)
-room-256 e = (omega (arith, e), omega (arith, e))
+room-fields : {m : ℕ} → m ≡ mostFields → (m < 2 ^ 64) × (m * 1 < 2 ^ 63)
+room-fields e = (omega (arith, e), omega (arith, e))
 
 module _ {M : Type 1} (𝓤 : URA M) (H : Heap 𝓤) (A : Atoms 𝓤) (mem : Memory → SProp 𝓤) (run : Routine → Fun 𝓤) where
   -- the contracts that the proof cites
@@ -220,7 +220,7 @@ module _ {M : Type 1} (𝓤 : URA M) (H : Heap 𝓤) (A : Atoms 𝓤) (W : Given
   given-fill m l γ fs = (x, (m, (y l γ fs, tt)))
 
   abbrev passed-fill : ℕ → ℕ → (ν : ℕ) → Vals fill.signature (κ′, (ν ∷ [], tt))
-  passed-fill m l ν = (s ∷ [], (vint w64 m ∷ [], (sliceVal (l, 0) 256 ∷ [], tt)))
+  passed-fill m l ν = (s ∷ [], (vint w64 m ∷ [], (sliceVal (l, 0) mostFields ∷ [], tt)))
 
   abbrev to-fill-in : ℕ → ℕ → ℕ → GName → List ℕ → Fill 𝓤 H A at-mem run .Ghost
   to-fill-in m l ν γ fs = (((κ′, (ν ∷ [], tt)), (q′, (fullShare, tt)), tt, given-fill m l γ fs, passed-fill m l ν), tt)
@@ -228,18 +228,18 @@ module _ {M : Type 1} (𝓤 : URA M) (H : Heap 𝓤) (A : Atoms 𝓤) (W : Given
   abbrev Lent : ℕ → ℕ → GName → List ℕ → ℕ → Fml
   Lent l ν γ fs k = ShrSlice (named 1) (ν ∷ []) u8 .own (y l γ fs) (sliceVal (l, 0) k ∷ [])
 
-  goes-fill : (m l ν : ℕ) (γ : GName) (fs : List ℕ) → m < 2 ^ 64 → length fs ≡ 256 → (m ≤ length ys) × (4 * m ≤ 256)
-      → ent 𝓤 (⋆ 𝓤 H A (‵ Kept ∷ ‵ (flft (ν ∷ []) fullShare) ∷ ‵ (Lent l ν γ fs 256) ∷ [])) (sep 𝓤 (Fill 𝓤 H A at-mem run .pre (to-fill-in m l ν γ fs)) (sem 𝓤 H A OwnP))
+  goes-fill : (m l ν : ℕ) (γ : GName) (fs : List ℕ) → m < 2 ^ 64 → length fs ≡ mostFields → (m ≤ length ys) × (recordFields * m ≤ mostFields)
+      → ent 𝓤 (⋆ 𝓤 H A (‵ Kept ∷ ‵ (flft (ν ∷ []) fullShare) ∷ ‵ (Lent l ν γ fs mostFields) ∷ [])) (sep 𝓤 (Fill 𝓤 H A at-mem run .pre (to-fill-in m l ν γ fs)) (sem 𝓤 H A OwnP))
   goes-fill m l ν γ fs m-fits len asked =
-      qed W (‵ Kept ∷ ‵ (flft (ν ∷ []) fullShare) ∷ ‵ (Lent l ν γ fs 256) ∷ []) ∵ fsplit ! $ move ! (1 ∷ []) $ fsplit ! $
+      qed W (‵ Kept ∷ ‵ (flft (ν ∷ []) fullShare) ∷ ‵ (Lent l ν γ fs mostFields) ∷ []) ∵ fsplit ! $ move ! (1 ∷ []) $ fsplit ! $
       -- [paths; the list; its token; ν's; the fields]
       nothing ! $ move ! (5 ∷ 0 ∷ []) $ fjoin ! $ owned ! usize (Is usize) (uint-makes 𝓤 H A W w64) m _ (refl, m-fits) $ fjoin ! $ move ! (2 ∷ 0 ∷ []) $ fjoin ! $
       -- [what the parameters own; paths; the list's token; ν's]
       nothing ! $ move ! (4 ∷ 0 ∷ []) $ join ! $ move ! (3 ∷ 0 ∷ []) $ join ! $
       -- [the tokens, as `fill` has them; what its parameters own; paths]
       use2 W (raw (Fill 𝓤 H A at-mem run .pre (to-fill-in m l ν γ fs))) (qed W (Alive′ ν ∷ ‵ (owns (MutSlice (named 0) κ′ R ∷ usize ∷ ShrSlice (named 1) (ν ∷ []) u8 ∷ []) (given-fill m l γ fs) (passed-fill m l ν)) ∷ []) ∵
-      suffices ! _ (assoc∗ 𝓤 (onEntry 𝓤 H A fill.signature (κ′, (ν ∷ [], tt)) (q′, (fullShare, tt)) (given-fill m l γ fs) (passed-fill m l ν)) (fact 𝓤 (m ≤ length ys)) (fact 𝓤 (4 * m ≤ length fs))) $
-      says ! (subst (λ (k : ℕ). 4 * m ≤ k) (sym len) (asked .1)) $ says ! (asked .0) $ join ! $ done !) $ frame ! $ done !
+      suffices ! _ (assoc∗ 𝓤 (onEntry 𝓤 H A fill.signature (κ′, (ν ∷ [], tt)) (q′, (fullShare, tt)) (given-fill m l γ fs) (passed-fill m l ν)) (fact 𝓤 (m ≤ length ys)) (fact 𝓤 (recordFields * m ≤ length fs))) $
+      says ! (subst (λ (k : ℕ). recordFields * m ≤ k) (sym len) (asked .1)) $ says ! (asked .0) $ join ! $ done !) $ frame ! $ done !
 
   module _ (C : Calls 𝓤 H) (Λ : Loops 𝓤 H) (fm : FmC 𝓤 H (W .laws) C) (known-refusal : Triple 𝓤 (C #route-records·refusal-of) (RefusalOf 𝓤 H A at-mem run)) (known-fields : Triple 𝓤 (C #route-records·fields-of) (FieldsOf 𝓤 H A at-mem run))
       (known-to-fill : Triple 𝓤 (C #route-records·to-fill) (ToFill 𝓤 H A at-mem run)) (known-fill : Triple 𝓤 (C #route-records·fill) (Fill 𝓤 H A at-mem run)) where
@@ -265,8 +265,8 @@ module _ {M : Type 1} (𝓤 : URA M) (H : Heap 𝓤) (A : Atoms 𝓤) (W : Given
         use1 W (later (some (λ (fs : List ℕ). (Alone ⊛ ‵ (Fields .own fs (w₁ ∷ []))) ⊛ raw (ensured 𝓤 H A fields-of.ended (fields-of.clauses 𝓤 H A at-mem run) (κ, tt) (given-fields r) tt fs)))) (id⊢ 𝓤 _) $ await ! tt $ pick ! (λ fs.
         split ! $ move ! (1 ∷ []) $ use1 W (raw (fact 𝓤 (Lays r fs))) (fields-said r fs) $ heard ! (Lays r fs) (λ e₁. split ! $ move ! (1 ∷ []) $ peeks ! Fields (Is Fields) (shows 𝓤 H A Fields) fs (w₁ ∷ []) (λ is₁.
         -- [what the fields own; paths's token; what is kept; _14; …]: local k stands at 3 + 2 · (14 − k)
-        land ! (from ! (stop !)) (init ! 13 refl (array-lawful 𝓤 H A W u8 (uint-lawful 𝓤 H A W w8) 256 .typed fs _ is₁ .0)) $
-        assigns ! (of-opd ! (load ! (from ! (stop !)) (look ! 13 refl))) (from ! (stop !)) (init ! 19 refl (array-lawful 𝓤 H A W u8 (uint-lawful 𝓤 H A W w8) 256 .typed fs _ is₁ .0)) $
+        land ! (from ! (stop !)) (init ! 13 refl (array-lawful 𝓤 H A W u8 (uint-lawful 𝓤 H A W w8) mostFields .typed fs _ is₁ .0)) $
+        assigns ! (of-opd ! (load ! (from ! (stop !)) (look ! 13 refl))) (from ! (stop !)) (init ! 19 refl (array-lawful 𝓤 H A W u8 (uint-lawful 𝓤 H A W w8) mostFields .typed fs _ is₁ .0)) $
         -- `to_fill`
         nothing ! $ use1 W (raw (ToFill 𝓤 H A at-mem run .pre (to-to-fill r))) (goes-to-fill r (is .1)) $
         calls-at ! fm (ToFill 𝓤 H A at-mem run) known-to-fill (to-to-fill r) (and-then ! (load ! (from ! (stop !)) (look ! 22 refl)) (and-then ! (load ! (from ! (stop !)) (look ! 30 refl)) (no-more !))) (λ w₂.
@@ -280,7 +280,7 @@ module _ {M : Type 1} (𝓤 : URA M) (H : Heap 𝓤) (A : Atoms 𝓤) (W : Given
         assigns ! (agg ! (and-then ! (load ! (from ! (stop !)) (look ! 5 refl)) (and-then ! (lit ! tt) (no-more !)))) (from ! (stop !)) (init ! 3 refl (tt, (tt, (record { fits = lit< tt }, tt)))) $
         -- the array in _6 is lent for a lifetime ν of the call
         lft-new ! tt (λ ν. move ! (20 ∷ 1 ∷ []) $
-        use2 W (later (some (λ (γ : GName). ‵ (Lent l₆ ν γ fs (length fs)) ⊛ ‵ (Shared u8 256 (ν ∷ []) l₆ fs)))) (shares-array u8 256 (ν ∷ []) l₆ 𝓤 H A W tt (named 1) fs w₁ (room-256 (is₁ .1 .0 .1))) $ await ! tt $ pick ! (λ γ. split ! $
+        use2 W (later (some (λ (γ : GName). ‵ (Lent l₆ ν γ fs (length fs)) ⊛ ‵ (Shared u8 mostFields (ν ∷ []) l₆ fs)))) (shares-array u8 mostFields (ν ∷ []) l₆ 𝓤 H A W tt (named 1) fs w₁ (room-fields (is₁ .1 .0 .1))) $ await ! tt $ pick ! (λ γ. split ! $
         rewrite ! 0 (λ (k : ℕ). ‵ (Lent l₆ ν γ fs k)) (is₁ .1 .0 .1) refl $
         -- [the fields; the lender's part; ν's token; paths's token; what is kept; _14; …; _7; …; that _6 dies; _5; …]
         move ! (4 ∷ 2 ∷ 0 ∷ []) $ use3 W (raw (Fill 𝓤 H A at-mem run .pre (to-fill-in m l₆ ν γ fs)) ⊛ ‵ OwnP) (goes-fill m l₆ ν γ fs (is₂ .1) (is₁ .1 .0 .1) (fits n (length ys) c r m (now p) e e₂)) $ split ! $
@@ -294,7 +294,7 @@ module _ {M : Type 1} (𝓤 : URA M) (H : Heap 𝓤) (A : Atoms 𝓤) (W : Given
         land ! (from ! (stop !)) (init ! 14 refl (subst (λ (y : Val). Holds (hasTy tyUnit y) × WT y) (sym (ap only is-unit)) (tt, tt))) $
         -- the lifetime is ended, and the array comes back
         split ! $ move ! (1 ∷ []) $ split ! $ lft-end ! tt $ move ! (0 ∷ 6 ∷ []) $
-        use2 W (later (some (λ (u : Val). ‵ (fat fullShare (τ u8 256 (ν ∷ []) l₆) l₆ 0 u) ⊛ ‵ (Fields .own fs (u ∷ []))))) (array-shared-back u8 256 (ν ∷ []) l₆ 𝓤 H A W fs (is₁ .1 .0 .1)) $ await ! tt $ pick ! (λ u. split ! $ move ! (1 ∷ []) $ drop ! $
+        use2 W (later (some (λ (u : Val). ‵ (fat fullShare (τ u8 mostFields (ν ∷ []) l₆) l₆ 0 u) ⊛ ‵ (Fields .own fs (u ∷ []))))) (array-shared-back u8 mostFields (ν ∷ []) l₆ 𝓤 H A W fs (is₁ .1 .0 .1)) $ await ! tt $ pick ! (λ u. split ! $ move ! (1 ∷ []) $ drop ! $
         -- [_6; true; the list's token; the last list; …; paths; paths's token; _14; …; _7; …; that _6 dies; _5; …; _0; …]
         assigns ! (of-opd ! (load ! (from ! (stop !)) (look ! 24 refl))) (from ! (stop !)) (init ! 34 refl (tt, record { fits = is .1 })) $
         returns ! (look ! 34 refl) $ forget ! 0 refl $ forget ! 7 refl $ forget ! 9 refl $ forget ! 11 refl $ forget ! 13 refl $ forget ! 15 refl $ forget ! 17 refl $ forget ! 19 refl $ forget ! 21 refl $ forget ! 24 refl $ forget ! 26 refl $ forget ! 28 refl $ forget ! 30 refl $ forget ! 32 refl $ forget ! 34 refl $

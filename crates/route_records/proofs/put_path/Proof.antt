@@ -4,7 +4,8 @@ use native.Mathlib.Omega.{arith}
 use lib.ListN.{length, getD}
 use Rattle.basics.proofs.Lists.{all-at}
 use Rattle.site.specs.Limits.{mostRadios}
-use Rattle.route_records.proofs.Fields.{PathLaid, none-laid, one-more-laid, all-laid}
+use Rattle.route_records.specs.Filling.{PathLaid}
+use Rattle.route_records.proofs.Fields.{none-laid, one-more-laid, all-laid}
 use Rattle.route_records.proofs.put_path.Statement.{statement}
 use Rattle.route_records.proofs.put_path.Tie as tie
 
@@ -29,7 +30,7 @@ loop-again c =
 returns : tie.Need-returns Inv-loop μ-loop
 returns c =
     let inv = past tie.At-loop (search) .loop .inv in
-    all-laid (omega arith) (inv .1) .route
+    all-laid (omega arith) (inv .1)
 
 pub put-path-spec : {M : Type 1} → statement M
 put-path-spec =
