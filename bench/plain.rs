@@ -66,9 +66,16 @@ fn judge(asked: &Asked, lent: &Lent) -> Result<(), Outcome> {
     let mut links = 0;
     for row in 0..n {
         for column in 0..n {
-            let cell = table[row * n + column];
-            if cell > 1 || (row == column && cell != 0) || cell != table[column * n + row] {
-                return Err(Outcome::refused(3, row * n + column));
+            let place = row * n + column;
+            let cell = table[place];
+            if cell > 1 {
+                return Err(Outcome::refused(3, place));
+            }
+            if row == column && cell != 0 {
+                return Err(Outcome::refused(12, place));
+            }
+            if cell != table[column * n + row] {
+                return Err(Outcome::refused(13, place));
             }
             if row < column && cell == 1 {
                 links += 1;

@@ -90,7 +90,7 @@ pub fn survey(asked: &Asked, lent: Lent) -> Outcome {
     }
 }
 
-/// Refusals 1 to 8 in their order; fills the rows of links.
+/// Refusals 1, 2, the first bad cell's and 4 to 8, in this order; fills the rows of links.
 fn judge(asked: &Asked, lent: &Lent, rows: &mut [Radios; MOST_RADIOS]) -> Result<(), Outcome> {
     let refuse = |number| Err(Outcome::refused(number, 0));
     let (radios, wanted) = (asked.radios, asked.wanted);
@@ -101,7 +101,7 @@ fn judge(asked: &Asked, lent: &Lent, rows: &mut [Radios; MOST_RADIOS]) -> Result
         return refuse(2);
     }
     let Some(links) = read_rows(radios, asked.table, rows) else {
-        return Err(Outcome::refused(3, first_bad_cell(radios, asked.table)));
+        return Err(first_bad_cell(radios, asked.table));
     };
     if links > MOST_LINKS {
         return refuse(4);
@@ -171,17 +171,24 @@ fn mirrored_links(radios: usize, rows: &[Radios; MOST_RADIOS]) -> Option<usize> 
     Some(links)
 }
 
-/// Only after it is known that there is one.
-fn first_bad_cell(radios: usize, table: &[u8]) -> usize {
+/// Refusal 3, 12 or 13, only after it is known that there is a bad cell.
+fn first_bad_cell(radios: usize, table: &[u8]) -> Outcome {
     for row in 0..radios {
         for column in row..radios {
-            let (cell, mirror) = (table[row * radios + column], table[column * radios + row]);
-            if cell > 1 || cell != mirror || (row == column && cell != 0) {
-                return row * radios + column;
+            let place = row * radios + column;
+            let (cell, mirror) = (table[place], table[column * radios + row]);
+            if cell > 1 {
+                return Outcome::refused(3, place);
+            }
+            if row == column && cell != 0 {
+                return Outcome::refused(12, place);
+            }
+            if cell != mirror {
+                return Outcome::refused(13, place);
             }
         }
     }
-    0
+    unreachable!("a table was refused and has no bad cell")
 }
 
 /// A message's four bytes as a number; the round is added by the writer.

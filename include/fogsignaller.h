@@ -12,7 +12,7 @@
 #define FOGSIGNALLER_H
 
 /* The version of the header, the library, the command and the Rust package: one number for all. */
-#define FOG_VERSION "1.1.0"
+#define FOG_VERSION "2.0.0"
 
 #include <stddef.h>
 #include <stdint.h>
@@ -21,14 +21,24 @@
 extern "C" {
 #endif
 
-/* Why a call was refused. They are tried in this order and the first that holds is given; 1 to 8
- * by fog_survey, and 1, 20 and 21 by fog_routes. */
+/* Why a call was refused. They are tried in this order and the first that holds is given: those up
+ * to FOG_LIST_TOO_SHORT by fog_survey, and 1, 20 and 21 by fog_routes.
+ *
+ * FOG_CELL_VALUE, FOG_CELL_DIAGONAL and FOG_CELL_MIRROR say what is wrong with the first bad cell
+ * of the table in row order. place is that cell, counted from 0: its row is radio place/n and its
+ * column radio place%n. Its mirror cell has these two the other way round and must be the same.
+ * The three are tried at one cell before the next, so an earlier cell is told whatever its fault.
+ *
+ * For callers of 1.x: FOG_CELL, which was 3, has become these three. Where you compared with it,
+ * compare with all three; place is set for each of them. */
 enum fog_refusal {
     FOG_ACCEPTED = 0,
     FOG_NUMBER_OF_RADIOS = 1, /* n is below 2 or above 64 */
     FOG_TABLE_LENGTH = 2,     /* table_len is not n*n */
-    FOG_CELL = 3,             /* a cell is not 0 or 1, or is on the diagonal and not 0, or differs
-                                 from its mirror cell; place is the first such cell, i*n+j */
+    FOG_CELL_VALUE = 3,       /* the cell holds something other than 0 or 1 */
+    FOG_CELL_DIAGONAL = 12,   /* the cell is 1 and on the diagonal: a radio is linked to itself */
+    FOG_CELL_MIRROR = 13,     /* the cell differs from its mirror cell, as where one radio says that
+                                 the two are linked and the other that they are not */
     FOG_TOO_MANY_LINKS = 4,   /* more than 256 links */
     FOG_ENDS = 5,             /* s or t is not below n, or they are equal */
     FOG_WANTED = 6,           /* k is 0 or above 8 */
@@ -69,7 +79,7 @@ enum fog_role {
 /* The numbers that a survey returns. After a refusal the three counts are 0. */
 struct fog_outcome {
     size_t refusal;  /* an enum fog_refusal; 0 if the call was accepted */
-    size_t place;    /* the bad cell for FOG_CELL, else 0 */
+    size_t place;    /* the bad cell for FOG_CELL_VALUE, _DIAGONAL and _MIRROR, else 0 */
     size_t paths;    /* how many paths were found: k, or all there are where there are fewer */
     size_t rounds;   /* how many rounds were started */
     size_t messages; /* how many messages were sent; the log's used bytes divided by 4 */

@@ -26,8 +26,8 @@ struct Plan {
     circle: usize,
     reach: usize,
     spokes: usize,
-    /// The place of a cell that holds 2.
-    spoiled: Option<usize>,
+    /// The place of a cell that is not as the map has it, and what it holds.
+    spoiled: Option<(usize, u8)>,
     source: usize,
     destination: usize,
     wanted: usize,
@@ -56,9 +56,9 @@ impl Plan {
         }
     }
 
-    fn with_spoiled(self, place: usize) -> Plan {
+    fn with_spoiled(self, place: usize, held: u8) -> Plan {
         Plan {
-            spoiled: Some(place),
+            spoiled: Some((place, held)),
             ..self
         }
     }
@@ -111,8 +111,8 @@ impl Plan {
             _ => self.map().table(),
         };
         table.resize(self.cells, 0);
-        if let Some(place) = self.spoiled {
-            table[place] = 2;
+        if let Some((place, held)) = self.spoiled {
+            table[place] = held;
         }
         table
     }
@@ -191,9 +191,54 @@ fn tables() -> Vec<Case> {
         ("a small table one long", PAIR.with_cells(5)),
         ("a large table one short", LARGEST.with_cells(4095)),
         ("a large table one long", LARGEST.with_cells(4097)),
-        ("a bad first cell", LARGEST.with_spoiled(0)),
-        ("a bad mirror cell", LARGEST.with_spoiled(64)),
-        ("a bad last cell", LARGEST.with_spoiled(4095)),
+    ]
+}
+
+/// Refusal 3 at the first place, in the middle and at the last, on the diagonal and off it.
+fn cell_values() -> Vec<Case> {
+    let spoiled = |place, held| LARGEST.with_spoiled(place, held);
+    vec![
+        ("a bad first cell", spoiled(0, 2)),
+        ("255 in the first cell", spoiled(0, 255)),
+        ("2 for the first link", spoiled(1, 2)),
+        ("2 for a link", spoiled(1301, 2)),
+        ("2 for no link", spoiled(1320, 2)),
+        ("2 on the diagonal", spoiled(2080, 2)),
+        ("2 for the last link", spoiled(4031, 2)),
+        ("a bad last cell", spoiled(4095, 2)),
+        ("255 in the last cell", spoiled(4095, 255)),
+    ]
+}
+
+/// Refusal 12 at the first place, in the middle and at the last.
+fn diagonal_cells() -> Vec<Case> {
+    vec![
+        ("1 in the first cell", LARGEST.with_spoiled(0, 1)),
+        ("1 on the diagonal", LARGEST.with_spoiled(2080, 1)),
+        ("1 in the last cell", LARGEST.with_spoiled(4095, 1)),
+        ("1 in the last of four cells", PAIR.with_spoiled(3, 1)),
+    ]
+}
+
+/// Refusal 13 at the first place where it can stand, in the middle and at the last. It is told at
+/// the cell above the diagonal, whichever of the two was changed and whatever the lower one holds.
+fn mirror_cells() -> Vec<Case> {
+    let spoiled = |place, held| LARGEST.with_spoiled(place, held);
+    let lone_link = |place| LARGEST.with_links(64, 0, 0).with_spoiled(place, 1);
+    vec![
+        ("a link of two radios one way", PAIR.with_spoiled(2, 0)),
+        ("2 below a link of two radios", PAIR.with_spoiled(2, 2)),
+        ("0 for the first link", spoiled(1, 0)),
+        ("0 below the first link", spoiled(64, 0)),
+        ("a bad mirror cell", spoiled(64, 2)),
+        ("1 for no link", spoiled(1320, 1)),
+        ("1 below no link", spoiled(2580, 1)),
+        ("2 below no link", spoiled(2580, 2)),
+        ("0 for the last link", spoiled(4031, 0)),
+        ("0 below the last link", spoiled(4094, 0)),
+        ("2 below the last link", spoiled(4094, 2)),
+        ("the only 1 above the diagonal", lone_link(1)),
+        ("the only 1 below the diagonal", lone_link(4094)),
     ]
 }
 
@@ -320,6 +365,9 @@ fn all_cases() -> Vec<Case> {
     [
         numbers_of_radios(),
         tables(),
+        cell_values(),
+        diagonal_cells(),
+        mirror_cells(),
         numbers_of_links(),
         numbers_wanted(),
         ends(),
@@ -340,8 +388,9 @@ pub fn write_edges() -> Result<String, String> {
     all_cases().iter().map(write_case).collect()
 }
 
-/// The name and thirteen numbers, parted by TABs.
+/// The name and fourteen numbers, parted by TABs.
 fn write_call((name, plan): &Case) -> String {
+    let (spoiled, held) = plan.spoiled.unwrap_or((NOWHERE, 0));
     let numbers = [
         plan.radios,
         plan.cells,
@@ -354,7 +403,8 @@ fn write_call((name, plan): &Case) -> String {
         plan.circle,
         plan.reach,
         plan.spokes,
-        plan.spoiled.unwrap_or(NOWHERE),
+        spoiled,
+        usize::from(held),
         usize::from(plan.kept),
     ];
     let columns: String = numbers.iter().map(|number| format!("\t{number}")).collect();

@@ -12,7 +12,9 @@ use crate::sheet::Capture;
 pub enum Refusal {
     NumberOfRadios,
     TableLength,
-    Cell { place: usize },
+    CellValue { place: usize },
+    CellDiagonal { place: usize },
+    CellMirror { place: usize },
     TooManyLinks,
     Ends,
     Wanted,
@@ -30,7 +32,9 @@ impl Refusal {
         match self {
             Refusal::NumberOfRadios => 1,
             Refusal::TableLength => 2,
-            Refusal::Cell { .. } => 3,
+            Refusal::CellValue { .. } => 3,
+            Refusal::CellDiagonal { .. } => 12,
+            Refusal::CellMirror { .. } => 13,
             Refusal::TooManyLinks => 4,
             Refusal::Ends => 5,
             Refusal::Wanted => 6,
@@ -46,7 +50,9 @@ impl Refusal {
 
     pub fn place(self) -> usize {
         match self {
-            Refusal::Cell { place } => place,
+            Refusal::CellValue { place }
+            | Refusal::CellDiagonal { place }
+            | Refusal::CellMirror { place } => place,
             Refusal::LineShape { line } | Refusal::LinkLine { line } => line,
             _ => 0,
         }
@@ -81,7 +87,7 @@ pub struct Call {
     pub lengths: Lengths,
 }
 
-/// Refusals 1 to 8 in their order.
+/// Refusals 1, 2, then 3, 12 or 13 for the first bad cell, and 4 to 8, in this order.
 pub fn judge_call(call: &Call) -> Result<Question, Refusal> {
     judge_number_of_radios(call.radios)?;
     if call.table.len() != call.radios * call.radios {
@@ -109,7 +115,7 @@ pub fn judge_number_of_radios(radios: usize) -> Result<(), Refusal> {
     Err(Refusal::NumberOfRadios)
 }
 
-/// Refusal 3: the first bad cell in row order.
+/// Refusals 3, 12 and 13: the first bad cell in row order, by the first kind of fault that it has.
 fn judge_cells(radios: usize, table: &[u8]) -> Result<Map, Refusal> {
     let mut map = Map::without_links(radios);
     for row in 0..radios {
@@ -117,8 +123,14 @@ fn judge_cells(radios: usize, table: &[u8]) -> Result<Map, Refusal> {
             let place = row * radios + column;
             let cell = table[place];
             let mirror = table[column * radios + row];
-            if cell > 1 || (row == column && cell != 0) || cell != mirror {
-                return Err(Refusal::Cell { place });
+            if cell > 1 {
+                return Err(Refusal::CellValue { place });
+            }
+            if row == column && cell != 0 {
+                return Err(Refusal::CellDiagonal { place });
+            }
+            if cell != mirror {
+                return Err(Refusal::CellMirror { place });
             }
             if cell == 1 {
                 map.link(row, column);

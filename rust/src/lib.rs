@@ -78,11 +78,13 @@
 //! # Ok::<(), fogsignaller::Refusal>(())
 //! ```
 //!
-//! A question that is not in order is refused, with the reason in words:
+//! A question that is not in order is refused, with the reason in words. Where a cell of the table
+//! is bad, the reason says in which way, and which two radios it is about:
 //!
 //! ```
-//! use fogsignaller::{survey, Question, Refusal};
+//! use fogsignaller::{survey, Cell, Question, Refusal};
 //!
+//! // Radio 0 says that it is linked to radio 1, and radio 1 that it is not linked to radio 0.
 //! let question = Question {
 //!     radios: 2,
 //!     table: &[0, 1, 0, 0],
@@ -91,11 +93,16 @@
 //!     wanted: 1,
 //! };
 //! let refusal = survey(&question).unwrap_err();
-//! assert_eq!(refusal, Refusal::Cell { place: 1 });
+//! let cell = Cell {
+//!     place: 1,
+//!     row: 0,
+//!     column: 1,
+//! };
+//! assert_eq!(refusal, Refusal::CellMirror(cell));
 //! assert_eq!(
 //!     refusal.to_string(),
-//!     "refused 3: the table's cell at place 1 is not 0 or 1, \
-//!      or is on the diagonal and not 0, or differs from its mirror cell"
+//!     "refused 13: radio 0 and radio 1 do not say the same of their link: \
+//!      the table's cell at place 1 (row 0, column 1) differs from its mirror cell"
 //! );
 //! ```
 
@@ -150,19 +157,57 @@ pub struct Buffers<'buffers> {
     pub cut: &'buffers mut [u8],
 }
 
+/// A cell of the table: what it says of two radios.
+#[derive(Clone, Copy, Debug, PartialEq, Eq, Hash)]
+pub struct Cell {
+    /// Where it stands in the table, row by row, counted from 0: row·n + column.
+    pub place: usize,
+    /// The radio whose row it stands in.
+    pub row: usize,
+    /// The radio whose column it stands in. The mirror cell has the two the other way round.
+    pub column: usize,
+}
+
+impl Cell {
+    /// A map has a radio, or it would have no cell.
+    fn at(place: usize, radios: usize) -> Cell {
+        Cell {
+            place,
+            row: place / radios,
+            column: place % radios,
+        }
+    }
+}
+
+impl fmt::Display for Cell {
+    fn fmt(&self, formatter: &mut fmt::Formatter<'_>) -> fmt::Result {
+        let Cell { place, row, column } = self;
+        write!(
+            formatter,
+            "cell at place {place} (row {row}, column {column})"
+        )
+    }
+}
+
 /// Why a call was refused. They are tried in this order, and the first that holds is given; the
 /// last two and the first are those of a path list.
+///
+/// The three of a cell speak of the first bad cell of the table in row order, and are tried there
+/// before the next cell is looked at. In 1.x they were one, `Refusal::Cell { place }`: where a
+/// program knew that, it has to know these three, or ask [`Refusal::cell`].
 #[derive(Clone, Copy, Debug, PartialEq, Eq, Hash)]
 pub enum Refusal {
     /// n is below 2 or above 64.
     NumberOfRadios,
     /// The table's length is not n·n.
     TableLength,
-    /// A cell is not 0 or 1, or is on the diagonal and not 0, or differs from its mirror cell.
-    Cell {
-        /// The first such cell in row order, counted from 0.
-        place: usize,
-    },
+    /// The cell is not 0 or 1.
+    CellValue(Cell),
+    /// The cell is 1 and on the diagonal: a radio is linked to itself.
+    CellDiagonal(Cell),
+    /// The cell is 0 or 1 and differs from its mirror cell, as where one radio says that the two
+    /// are linked and the other that they are not.
+    CellMirror(Cell),
     /// There are more than 256 links.
     TooManyLinks,
     /// S or T is not below n, or they are the same radio.
@@ -181,12 +226,14 @@ pub enum Refusal {
 }
 
 impl Refusal {
-    /// The number that this refusal has in every language: 1 to 8, 20 or 21.
+    /// The number that this refusal has in every language: 1 to 8, 12, 13, 20 or 21.
     pub fn number(self) -> usize {
         match self {
             Refusal::NumberOfRadios => 1,
             Refusal::TableLength => 2,
-            Refusal::Cell { .. } => 3,
+            Refusal::CellValue(_) => 3,
+            Refusal::CellDiagonal(_) => 12,
+            Refusal::CellMirror(_) => 13,
             Refusal::TooManyLinks => 4,
             Refusal::Ends => 5,
             Refusal::Wanted => 6,
@@ -197,13 +244,25 @@ impl Refusal {
         }
     }
 
-    /// Nothing for an accepted call.
-    fn of(number: usize, place: usize) -> Option<Refusal> {
+    /// The bad cell, where there is one.
+    pub fn cell(self) -> Option<Cell> {
+        match self {
+            Refusal::CellValue(cell) | Refusal::CellDiagonal(cell) | Refusal::CellMirror(cell) => {
+                Some(cell)
+            }
+            _ => None,
+        }
+    }
+
+    /// Nothing for an accepted call. The number of radios may be any where no cell is bad.
+    fn of(number: usize, place: usize, radios: usize) -> Option<Refusal> {
         match number {
             0 => None,
             1 => Some(Refusal::NumberOfRadios),
             2 => Some(Refusal::TableLength),
-            3 => Some(Refusal::Cell { place }),
+            3 => Some(Refusal::CellValue(Cell::at(place, radios))),
+            12 => Some(Refusal::CellDiagonal(Cell::at(place, radios))),
+            13 => Some(Refusal::CellMirror(Cell::at(place, radios))),
             4 => Some(Refusal::TooManyLinks),
             5 => Some(Refusal::Ends),
             6 => Some(Refusal::Wanted),
@@ -228,10 +287,17 @@ impl fmt::Display for Refusal {
                 formatter,
                 "the table's length is not the number of radios times itself"
             ),
-            Refusal::Cell { place } => write!(
+            Refusal::CellValue(cell) => write!(formatter, "the table's {cell} is not 0 or 1"),
+            Refusal::CellDiagonal(cell) => write!(
                 formatter,
-                "the table's cell at place {place} is not 0 or 1, or is on the diagonal and \
-                 not 0, or differs from its mirror cell"
+                "radio {} is linked to itself: the table's {cell} is 1",
+                cell.row
+            ),
+            Refusal::CellMirror(cell) => write!(
+                formatter,
+                "radio {} and radio {} do not say the same of their link: \
+                 the table's {cell} differs from its mirror cell",
+                cell.row, cell.column
             ),
             Refusal::TooManyLinks => write!(formatter, "the map has more than 256 links"),
             Refusal::Ends => write!(
@@ -528,7 +594,7 @@ pub fn survey_into<'buffers>(
         wanted: question.wanted,
     };
     let outcome = raw::fog_survey(&asked, lent.log, lent.paths, lent.cut);
-    if let Some(refusal) = Refusal::of(outcome.refusal, outcome.place) {
+    if let Some(refusal) = Refusal::of(outcome.refusal, outcome.place, question.radios) {
         return Err(refusal);
     }
     let (log, paths, cut): (&[u8], &[u8], &[u8]) = (lent.log, lent.paths, lent.cut);
@@ -595,7 +661,7 @@ pub fn routes_into<'records>(
     let mut filled = [raw::Route::default(); ROUTES_ALWAYS_ENOUGH];
     let lent = records.len().min(ROUTES_ALWAYS_ENOUGH);
     let refusal = raw::fog_routes(list.radios, list.count, list.bytes, &mut filled[..lent]);
-    if let Some(refusal) = Refusal::of(refusal, 0) {
+    if let Some(refusal) = Refusal::of(refusal, 0, list.radios) {
         return Err(refusal);
     }
     let routes = &mut records[..list.radios];

@@ -1,8 +1,8 @@
 //! The wrapper through the static library: each refusal, lent and own buffers, the iterators.
 
 use fogsignaller::{
-    survey, survey_into, Buffers, CutItem, Kind, Message, Question, Refusal, CUT_ALWAYS_ENOUGH,
-    LOG_ALWAYS_ENOUGH, PATHS_ALWAYS_ENOUGH,
+    survey, survey_into, Buffers, Cell, CutItem, Kind, Message, Question, Refusal,
+    CUT_ALWAYS_ENOUGH, LOG_ALWAYS_ENOUGH, PATHS_ALWAYS_ENOUGH,
 };
 
 /// Two linked radios.
@@ -22,6 +22,10 @@ fn ask(
         destination,
         wanted,
     }
+}
+
+fn cell(place: usize, row: usize, column: usize) -> Cell {
+    Cell { place, row, column }
 }
 
 #[test]
@@ -66,9 +70,19 @@ fn each_refusal_of_a_question_has_its_number() {
         (ask(usize::MAX, &[], 0, 1, 1), Refusal::NumberOfRadios, 1),
         (ask(2, &[0, 1, 1], 0, 1, 1), Refusal::TableLength, 2),
         (
-            ask(2, &[0, 1, 1, 1], 0, 1, 1),
-            Refusal::Cell { place: 3 },
+            ask(2, &[0, 2, 2, 0], 0, 1, 1),
+            Refusal::CellValue(cell(1, 0, 1)),
             3,
+        ),
+        (
+            ask(2, &[0, 1, 1, 1], 0, 1, 1),
+            Refusal::CellDiagonal(cell(3, 1, 1)),
+            12,
+        ),
+        (
+            ask(2, &[0, 1, 0, 0], 0, 1, 1),
+            Refusal::CellMirror(cell(1, 0, 1)),
+            13,
         ),
         (ask(24, &crowded, 0, 1, 1), Refusal::TooManyLinks, 4),
         (ask(2, &PAIR, 1, 1, 1), Refusal::Ends, 5),
@@ -84,6 +98,98 @@ fn each_refusal_of_a_question_has_its_number() {
             .to_string()
             .starts_with(&format!("refused {number}: ")));
     }
+}
+
+/// A table of three radios and how it is refused: where it has several faults, the earliest cell is
+/// told, and at one cell the value before the others.
+#[test]
+fn first_bad_cell_is_told_by_its_first_fault() {
+    let cases = [
+        (
+            [2, 0, 0, 0, 0, 0, 0, 0, 0],
+            Refusal::CellValue(cell(0, 0, 0)),
+        ),
+        (
+            [0, 0, 0, 0, 0, 0, 0, 0, 1],
+            Refusal::CellDiagonal(cell(8, 2, 2)),
+        ),
+        (
+            [0, 0, 0, 0, 0, 0, 0, 0, 255],
+            Refusal::CellValue(cell(8, 2, 2)),
+        ),
+        // Told at the cell above the diagonal, whatever the one below it holds.
+        (
+            [0, 0, 0, 0, 0, 0, 0, 1, 0],
+            Refusal::CellMirror(cell(5, 1, 2)),
+        ),
+        (
+            [0, 0, 0, 0, 0, 1, 0, 2, 0],
+            Refusal::CellMirror(cell(5, 1, 2)),
+        ),
+        (
+            [0, 0, 0, 0, 0, 2, 0, 1, 0],
+            Refusal::CellValue(cell(5, 1, 2)),
+        ),
+        // All three faults, and each comes first once.
+        (
+            [0, 0, 2, 0, 1, 1, 2, 0, 0],
+            Refusal::CellValue(cell(2, 0, 2)),
+        ),
+        (
+            [1, 1, 2, 0, 0, 0, 2, 0, 0],
+            Refusal::CellDiagonal(cell(0, 0, 0)),
+        ),
+        (
+            [0, 1, 2, 0, 1, 0, 2, 0, 0],
+            Refusal::CellMirror(cell(1, 0, 1)),
+        ),
+    ];
+    for (table, expected) in cases {
+        // The other faults of the question come after those of its table.
+        for question in [ask(3, &table, 0, 2, 1), ask(3, &table, 3, 3, 0)] {
+            let refusal = survey(&question).expect_err("this table is not in order");
+            assert_eq!(refusal, expected, "{table:?}");
+            assert_eq!(lend(&question, 0, 0, 0), Err(expected));
+        }
+    }
+}
+
+#[test]
+fn refusal_of_a_cell_has_the_cell_and_names_its_radios() {
+    let cases = [
+        (
+            Refusal::CellValue(cell(5, 1, 2)),
+            "refused 3: the table's cell at place 5 (row 1, column 2) is not 0 or 1",
+        ),
+        (
+            Refusal::CellDiagonal(cell(8, 2, 2)),
+            "refused 12: radio 2 is linked to itself: \
+             the table's cell at place 8 (row 2, column 2) is 1",
+        ),
+        (
+            Refusal::CellMirror(cell(5, 1, 2)),
+            "refused 13: radio 1 and radio 2 do not say the same of their link: \
+             the table's cell at place 5 (row 1, column 2) differs from its mirror cell",
+        ),
+    ];
+    for (refusal, words) in cases {
+        assert!(refusal.cell().is_some());
+        assert_eq!(refusal.to_string(), words);
+    }
+    assert_eq!(Refusal::Ends.cell(), None);
+}
+
+#[test]
+fn last_cells_of_the_largest_table_are_told() {
+    let last = |place, held| {
+        let mut table = vec![0; 64 * 64];
+        table[place] = held;
+        survey(&ask(64, &table, 0, 1, 1)).expect_err("this table is not in order")
+    };
+    assert_eq!(last(4095, 1), Refusal::CellDiagonal(cell(4095, 63, 63)));
+    assert_eq!(last(4095, 2), Refusal::CellValue(cell(4095, 63, 63)));
+    assert_eq!(last(4031, 1), Refusal::CellMirror(cell(4031, 62, 63)));
+    assert_eq!(last(4094, 1), Refusal::CellMirror(cell(4031, 62, 63)));
 }
 
 /// Lends buffers of these lengths, full of a byte that must not stay.

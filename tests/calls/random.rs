@@ -178,34 +178,48 @@ fn spoil_length(table: &mut Vec<u8>, chance: &mut Chance) {
     }
 }
 
-/// A cell changed, sometimes with its mirror, sometimes on the diagonal, sometimes several.
+/// Bad cells of all three kinds, one or several: the first of them may be of any kind, and so may
+/// the others.
 fn spoil_cells(call: &mut Call, chance: &mut Chance) {
-    let cells = call.table.len();
-    if cells == 0 || call.radios == 0 {
+    if call.table.is_empty() || call.radios == 0 {
         return;
     }
-    for _ in 0..chance.one_of(&[1, 1, 1, 2, 5]) {
-        let place = if chance.one_in(4) {
-            // The last cells are those that a careless loop leaves out.
-            cells - 1 - chance.below(cells.min(3))
-        } else {
-            chance.below(cells)
-        };
-        let (row, column) = (place / call.radios, place % call.radios);
-        let value = chance.one_of(&[0, 1, 2, 3, 128, 129, 254, 255]);
-        call.table[place] = match chance.below(3) {
-            0 => call.table[place] ^ 1,
-            _ => value,
-        };
-        let mirror = column.saturating_mul(call.radios).saturating_add(row);
-        if chance.one_in(3) && mirror < cells {
-            call.table[mirror] = call.table[place];
-        }
-        let diagonal = row.saturating_mul(call.radios).saturating_add(row);
-        if chance.one_in(6) && diagonal < cells {
-            call.table[diagonal] = value;
-        }
+    for _ in 0..chance.one_of(&[1, 1, 1, 2, 3, 5]) {
+        spoil_cell(call, chance);
     }
+}
+
+/// The number of radios may be spoiled already: then a cell's mirror or its row's diagonal may not
+/// be there.
+fn spoil_cell(call: &mut Call, chance: &mut Chance) {
+    let radios = call.radios;
+    let place = place_to_spoil(call.table.len(), chance);
+    let (row, column) = (place / radios, place % radios);
+    let place_of = |row: usize, column: usize| row.saturating_mul(radios).saturating_add(column);
+    let mut put = |place: usize, byte: u8| {
+        if let Some(cell) = call.table.get_mut(place) {
+            *cell = byte;
+        }
+    };
+    let value = chance.one_of(&[2, 3, 128, 129, 254, 255]);
+    match chance.below(8) {
+        0 => put(place, value),
+        1 | 2 => {
+            put(place, value);
+            put(place_of(column, row), value);
+        }
+        3 => put(place_of(row, row), value),
+        4 | 5 => put(place_of(row, row), 1),
+        _ => call.table[place] ^= 1,
+    }
+}
+
+/// Often one of the last cells, which a careless loop leaves out.
+fn place_to_spoil(cells: usize, chance: &mut Chance) -> usize {
+    if chance.one_in(4) {
+        return cells - 1 - chance.below(cells.min(3));
+    }
+    chance.below(cells)
 }
 
 fn spoil_ends(call: &mut Call, chance: &mut Chance) {

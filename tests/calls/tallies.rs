@@ -8,6 +8,10 @@ use crate::smaller;
 use crate::smaller_routes;
 use crate::work::Tally;
 
+/// Each call's refusal numbers, 0 for none, in the order in which they are tried.
+const OF_SURVEYS: [usize; 11] = [0, 1, 2, 3, 12, 13, 4, 5, 6, 7, 8];
+const OF_ROUTES: [usize; 4] = [0, 1, 20, 21];
+
 /// How many calls had a number: that of their refusal, 0 for none, or that of their paths.
 #[derive(Default)]
 struct Counts {
@@ -27,6 +31,10 @@ impl Counts {
 
     fn of(&self, number: usize) -> usize {
         self.by_number.get(&number).copied().unwrap_or(0)
+    }
+
+    fn left_out(&self, numbers: &[usize]) -> Option<usize> {
+        numbers.iter().copied().find(|&number| self.of(number) == 0)
     }
 
     fn write_from(&self, least: usize) -> String {
@@ -93,6 +101,10 @@ impl Tally for Surveys {
         )
     }
 
+    fn left_out(&self) -> Option<usize> {
+        self.by_refusal.left_out(&OF_SURVEYS)
+    }
+
     fn describe_difference(seed: u64, number: usize) -> String {
         let trial = random_calls::trial_of(seed, number);
         tell_difference(&trial.what_differs(), "one", seed, number);
@@ -141,6 +153,10 @@ impl Tally for Routes {
             self.most_on_paths,
             self.by_refusal.write_from(1)
         )
+    }
+
+    fn left_out(&self) -> Option<usize> {
+        self.by_refusal.left_out(&OF_ROUTES)
     }
 
     fn describe_difference(seed: u64, number: usize) -> String {

@@ -19,6 +19,9 @@ pub trait Tally: Default + Send {
     fn join(&mut self, other: Self);
     fn write(&self) -> String;
 
+    /// A refusal number that no case had: such cases would compare less than they say.
+    fn left_out(&self) -> Option<usize>;
+
     /// The case in words, made smaller.
     fn describe_difference(seed: u64, number: usize) -> String;
 }
@@ -41,6 +44,12 @@ pub fn try_all<Kind: Tally>(seed: u64, count: usize) -> Result<(), String> {
         return Err(Kind::describe_difference(seed, number));
     }
     println!("{}", tally.write());
+    if let Some(number) = tally.left_out() {
+        let cases = Kind::CASES;
+        return Err(format!(
+            "none had refusal number {number}: try more {cases}"
+        ));
+    }
     println!("{count} {} equal", Kind::CASES);
     Ok(())
 }

@@ -2,8 +2,9 @@
 use mathlib.Core.Path.{_≡_, refl, sym, _∙_}
 use mathlib.Core.Bool.{Bool, true, false, cond, false≢true}
 use mathlib.Core.List.{[], _∷_, _++_}
-use mathlib.Core.Logic.{_⊎_, inl, inr}
+use mathlib.Core.Logic.{_⊎_, _↔_, inl, inr}
 use Prim.Native.Nat.{ℕ}
+use native.Mathlib.Decide.{ℕ-discrete}
 use lib.Dec.{eqb}
 use borrow.Author.Tests.{eqb-true, eqb-false}
 use Rattle.basics.specs.Numbered.{Conditions, Gives, NoneHolds, Lawful}
@@ -41,26 +42,36 @@ gives-parts (first ∷ rest) next c (inr later) = go (gives-parts rest next c (l
 -- ---- the law, for answers of any kind that have a number
 
 module _ {Answer : Type 0} (number : Answer → ℕ) where
-  -- one condition, told by a test: the answer v where it holds, else one without a number
-  pub law-one : (v none : Answer) (b : Bool) {P : Type 0} → (number v ≡ 0 → ⊥) → number none ≡ 0 → Tells b P → Lawful number ((number v, P) ∷ []) (cond b v none)
-  law-one v none true {P} some zero tells =
+  -- no condition: an answer without a number
+  pub law-none : (none : Answer) → number none ≡ 0 → Lawful number [] none
+  law-none none zero = record { given = λ c apart. (λ e. absurd (apart (sym e ∙ zero)), λ g. absurd g); none = (λ e. tt, λ n. zero) }
+
+  -- one condition more, told by a test, before the others: the answer v where it holds, else theirs
+  pub law-first : (v : Answer) (b : Bool) {P : Type 0} {rest : Conditions} {w : Answer} → (number v ≡ 0 → ⊥) → Tells b P → Lawful number rest w → Lawful number ((number v, P) ∷ rest) (cond b v w)
+  law-first v true {P} {rest} some tells others =
       record {
         given = λ c apart. (λ e. inl (sym e, tells .0 refl), own c);
         none = (λ e. absurd (some e), λ none-holds. absurd (none-holds .0 (tells .0 refl)));
       }
     where
-      own : (c : ℕ) → Gives ((number v, P) ∷ []) c → number v ≡ c
+      own : (c : ℕ) → Gives ((number v, P) ∷ rest) c → number v ≡ c
       own c (inl g) = sym (g .0)
-      own c (inr g) = absurd (g .1)
-  law-one v none false {P} some zero tells =
+      own c (inr g) = absurd (g .0 (tells .0 refl))
+  law-first v false {P} {rest} {w} some tells others =
       record {
-        given = λ c apart. (λ e. absurd (apart (sym e ∙ zero)), λ g. absurd (own c g));
-        none = (λ e. (λ p. false≢true (tells .1 p), tt), λ none-holds. zero);
+        given = λ c apart. (λ e. inr (not-so, others .given c apart .0 e), theirs c apart);
+        none = (λ e. (not-so, others .none .0 e), λ none-holds. others .none .1 (none-holds .1));
       }
     where
-      own : (c : ℕ) → Gives ((number v, P) ∷ []) c → ⊥
-      own c (inl g) = false≢true (tells .1 (g .1))
-      own c (inr g) = g .1
+      not-so : P → ⊥
+      not-so p = false≢true (tells .1 p)
+
+      theirs : (c : ℕ) → (c ≡ 0 → ⊥) → Gives ((number v, P) ∷ rest) c → number w ≡ c
+      theirs c apart (inl g) = absurd (not-so (g .1))
+      theirs c apart (inr g) = others .given c apart .1 (g .1)
+
+  pub law-one : (v none : Answer) (b : Bool) {P : Type 0} → (number v ≡ 0 → ⊥) → number none ≡ 0 → Tells b P → Lawful number ((number v, P) ∷ []) (cond b v none)
+  law-one v none b some zero tells = law-first v b some tells (law-none none zero)
 
   -- one list after another: the second's answer stands where the first's has no number
   pub law-after : {list next : Conditions} {v w : Answer} → Lawful number list v → Lawful number next w → Lawful number (list ++ next) (cond (eqb (number v) 0) w v)
@@ -94,3 +105,29 @@ module _ {Answer : Type 0} (number : Answer → ℕ) where
           from-first : (c : ℕ) → (c ≡ 0 → ⊥) → Gives list c ⊎ (NoneHolds list × Gives next c) → number v ≡ c
           from-first c apart (inl g) = first .given c apart .1 g
           from-first c apart (inr g) = absurd (some (first .none .1 (g .0)))
+
+  -- ---- conditions of which each holds exactly if the answer has its number
+
+  abbrev pub Each : Answer → Conditions → Type 0
+  Each v [] = Unit
+  Each v (first ∷ rest) = (first .0 ≡ 0 → ⊥) × ((number v ≡ first .0) ↔ first .1) × Each v rest
+
+  each-gives : (v : Answer) (list : Conditions) → Each v list → (NoneHolds list → number v ≡ 0) → (c : ℕ) → (c ≡ 0 → ⊥) → number v ≡ c → Gives list c
+  each-gives v [] each left c apart told = absurd (apart (sym told ∙ left tt))
+  each-gives v (first ∷ rest) (some, exact, each) left c apart told = go (ℕ-discrete c (first .0)) (λ none-here. each-gives v rest each (λ none-holds. left (none-here, none-holds)) c apart told)
+    where
+      go : Dec (c ≡ first .0) → ((first .1 → ⊥) → Gives rest c) → Gives (first ∷ rest) c
+      go (yes e) others = inl (e, exact .0 (told ∙ e))
+      go (no d) others = let none-here : first .1 → ⊥ = λ p. d (sym told ∙ exact .1 p) in inr (none-here, others none-here)
+
+  each-given : (v : Answer) (list : Conditions) → Each v list → (c : ℕ) → Gives list c → number v ≡ c
+  each-given v [] each c g = absurd g
+  each-given v (first ∷ rest) (some, exact, each) c (inl g) = exact .1 (g .1) ∙ sym (g .0)
+  each-given v (first ∷ rest) (some, exact, each) c (inr g) = each-given v rest each c (g .1)
+
+  each-none : (v : Answer) (list : Conditions) → Each v list → number v ≡ 0 → NoneHolds list
+  each-none v [] each zero = tt
+  each-none v (first ∷ rest) (some, exact, each) zero = (λ p. some (sym (exact .1 p) ∙ zero), each-none v rest each zero)
+
+  pub law-each : (v : Answer) (list : Conditions) → Each v list → (NoneHolds list → number v ≡ 0) → Lawful number list v
+  law-each v list each left = record { given = λ c apart. (each-gives v list each left c apart, each-given v list each c); none = (each-none v list each, left) }

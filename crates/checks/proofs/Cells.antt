@@ -1,6 +1,6 @@
 -- The cells of a table: what a good one says, where it stands in row order, and what it says of the links. Assumes nothing.
-use mathlib.Core.Path.{_≡_, refl, sym, ap, ap₂, _∙_}
-use mathlib.Core.Bool.{Bool, true, false, not, _&&_, _||_, and-false}
+use mathlib.Core.Path.{_≡_, refl, sym, ap, _∙_}
+use mathlib.Core.Bool.{Bool, true, false, not, _&&_, cond, and-false, true≢false}
 use mathlib.Core.List.{List}
 use Prim.Native.Nat.{ℕ, _+_, _*_, _≤_, _<_}
 use native.Mathlib.Decide.{ℕ-discrete, decLt}
@@ -12,15 +12,12 @@ use borrow.Author.Tests.{eq-eqb, ne-eqb, eqb-true, lt-ltb, le-ltb, ltb-false, no
 use Rattle.basics.proofs.Places.{row-of, column-of}
 use Rattle.radios.specs.Bytes.{isOne}
 use Rattle.site.specs.Map.{linked}
-use Rattle.refusals.specs.Refusals.{bad, badAt, badCell}
+use Rattle.refusals.specs.Refusals.{cellFinding, findingAt, isBad}
+use Rattle.refusals.specs.declared.Finding.{Finding}
+use Rattle.refusals.specs.declared.Finding.the-variants.{Sound, Value, Diagonal, Mirror}
 use Rattle.site.specs.Limits.{mostRadios}
 
 -- ---- good cells
-
--- where an or fails, both its sides do
-neither-holds : {a b : Bool} → (a || b) ≡ false → (a ≡ false) × (b ≡ false)
-neither-holds {a = true} {b} e = absurd (let z : _≡_ {A = ℕ} 0 1 = cc in omega arith)
-neither-holds {a = false} {b} e = (refl, e)
 
 -- what is known of a cell that is not bad
 pub record Good (i j cell mirror : ℕ) : Type 0 where
@@ -28,43 +25,54 @@ pub record Good (i j cell mirror : ℕ) : Type 0 where
   pub off : i ≡ j → cell ≡ 0
   pub even : cell ≡ mirror
 
-good : (i j cell mirror : ℕ) → bad i j cell mirror ≡ false → Good i j cell mirror
-unfolding bad
-good i j cell mirror e =
-    let two = neither-holds e in
-    let one = neither-holds (two .0) in
-    record {
-      bit = ltb-false 1 cell (one .0);
-      off = λ q. eqb-true cell 0 (not-false (eqb cell 0) (ap (λ (t : Bool). t && not (eqb cell 0)) (sym (eq-eqb i j q)) ∙ one .1));
-      even = eqb-true cell mirror (not-false (eqb cell mirror) (two .1));
-    }
-
-pub not-bad : (i j cell mirror : ℕ) → Good i j cell mirror → bad i j cell mirror ≡ false
-unfolding bad
-not-bad i j cell mirror g = simp (le-ltb 1 cell (g .bit), eq-eqb cell mirror (g .even)) (pick (ℕ-discrete i j))
+good : (place i j cell mirror : ℕ) → isBad (cellFinding place i j cell mirror) ≡ false → Good i j cell mirror
+unfolding cellFinding
+good place i j cell mirror = go (ltb 1 cell) (eqb i j && not (eqb cell 0)) (eqb cell mirror) refl refl refl
   where
-    pick : Dec (i ≡ j) → ((eqb i j && not (eqb cell 0)) || false) ≡ false
+    go : (value own even : Bool) → ltb 1 cell ≡ value → (eqb i j && not (eqb cell 0)) ≡ own → eqb cell mirror ≡ even
+        → isBad (cond value (Value place) (cond own (Diagonal place) (cond (not even) (Mirror place) Sound))) ≡ false → Good i j cell mirror
+    go false false true v o e sound =
+        record {
+          bit = ltb-false 1 cell v;
+          off = λ q. eqb-true cell 0 (not-false (eqb cell 0) (ap (λ (t : Bool). t && not (eqb cell 0)) (sym (eq-eqb i j q)) ∙ o));
+          even = eqb-true cell mirror e;
+        }
+    go true own even v o e sound = absurd (true≢false sound)
+    go false true even v o e sound = absurd (true≢false sound)
+    go false false false v o e sound = absurd (true≢false sound)
+
+pub not-bad : (place i j cell mirror : ℕ) → Good i j cell mirror → isBad (cellFinding place i j cell mirror) ≡ false
+unfolding cellFinding
+not-bad place i j cell mirror g = simp (le-ltb 1 cell (g .bit), eq-eqb cell mirror (g .even)) (pick (ℕ-discrete i j))
+  where
+    pick : Dec (i ≡ j) → isBad (cond (eqb i j && not (eqb cell 0)) (Diagonal place) Sound) ≡ false
     pick (yes e) = simp (eq-eqb i j e, eq-eqb cell 0 (g .off e))
     pick (no d) = simp (ne-eqb i j d)
 
+-- what is found at the cell of row i and column j of a table
+abbrev pub findingIn : List ℕ → ℕ → ℕ → ℕ → Finding
+findingIn table n i j = cellFinding (i * n + j) i j (getD table (i * n + j) 0) (getD table (j * n + i) 0)
+
+abbrev pub badIn : List ℕ → ℕ → ℕ → ℕ → Bool
+badIn table n i j = isBad (findingIn table n i j)
+
 -- a cell is as good as its mirror cell
-pub good-mirror : (table : List ℕ) (n i j : ℕ) → badAt table n i j ≡ false → badAt table n j i ≡ false
-unfolding badAt
+pub good-mirror : (table : List ℕ) (n i j : ℕ) → badIn table n i j ≡ false → badIn table n j i ≡ false
 good-mirror table n i j e =
-    let g = good i j (getD table (i * n + j) 0) (getD table (j * n + i) 0) e in
-    not-bad j i (getD table (j * n + i) 0) (getD table (i * n + j) 0)
+    let g = good (i * n + j) i j (getD table (i * n + j) 0) (getD table (j * n + i) 0) e in
+    not-bad (j * n + i) j i (getD table (j * n + i) 0) (getD table (i * n + j) 0)
     (record { bit = omega (arith, g .bit, g .even); off = λ q. sym (g .even) ∙ g .off (sym q); even = sym (g .even) })
 
 -- ---- links
 
 -- a good cell is 1 where its radios are linked
-pub linked-good : (table : List ℕ) (n i j : ℕ) → i < n → j < n → badAt table n i j ≡ false → linked table n i j ≡ eqb (getD table (i * n + j) 0) 1
-unfolding badAt linked
+pub linked-good : (table : List ℕ) (n i j : ℕ) → i < n → j < n → badIn table n i j ≡ false → linked table n i j ≡ eqb (getD table (i * n + j) 0) 1
+unfolding linked
 linked-good table n i j hi hj e = simp (lt-ltb i n hi, lt-ltb j n hj) (pick (ℕ-discrete i j))
   where
     pick : Dec (i ≡ j) → (not (eqb i j) && eqb (getD table (i * n + j) 0) 1) ≡ eqb (getD table (i * n + j) 0) 1
     pick (yes q) =
-        let z : getD table (i * n + j) 0 ≡ 0 = good i j (getD table (i * n + j) 0) (getD table (j * n + i) 0) e .off q in
+        let z : getD table (i * n + j) 0 ≡ 0 = good (i * n + j) i j (getD table (i * n + j) 0) (getD table (j * n + i) 0) e .off q in
         simp (eq-eqb i j q, z)
     pick (no d) = simp (ne-eqb i j d)
 
@@ -92,9 +100,9 @@ linked-outside table n u v out = pick (decLt u n) (decLt v n)
 -- ---- row order
 
 -- the cell of row i and column j has the place i·n+j
-pub at-place : (table : List ℕ) (n i j : ℕ) → j < n → badCell table n (i * n + j) ≡ badAt table n i j
-unfolding badCell
-at-place table n i j h = ap₂ (badAt table n) (row-of n i j h) (column-of n i j h)
+pub at-place : (table : List ℕ) (n i j : ℕ) → j < n → findingAt table n (i * n + j) ≡ findingIn table n i j
+unfolding findingAt
+at-place table n i j h = rw (row-of n i j h, column-of n i j h) refl
 
 -- an earlier place is in an earlier row, or in the same row and further left
 pub earlier : (n a b i j : ℕ) → n ≤ mostRadios → b < n → j < n → a * n + b < i * n + j → mostRadios * a + b < mostRadios * i + j

@@ -13,12 +13,12 @@ use Rattle.radios.specs.Bytes.{Bits, isOne}
 use Rattle.radios.specs.Member.{member}
 use Rattle.radios.proofs.Laws.{member-empty}
 use Rattle.site.specs.Map.{linked}
-use Rattle.refusals.specs.Refusals.{badAt, finding}
+use Rattle.refusals.specs.Refusals.{finding}
 use Rattle.refusals.specs.declared.Finding.the-variants.{Sound}
 use Rattle.checks.specs.Checked.{AgreeTo, joined}
 use Rattle.radios.specs.Links.{RowsOfLinks}
 use Rattle.checks.proofs.Rows.{inRows}
-use Rattle.checks.proofs.Cells.{not-bad, linked-good, linked-apart, linked-itself, linked-outside}
+use Rattle.checks.proofs.Cells.{badIn, not-bad, linked-good, linked-apart, linked-itself, linked-outside}
 use Rattle.checks.proofs.Spreading.{swap}
 use Rattle.checks.proofs.Scan.{found-none, sound-cell, sound-even}
 
@@ -118,10 +118,9 @@ same-bits (suc (suc x)) y p q e = absurd (omega arith)
 
 module _ (table : List ℕ) (n : ℕ) (rows : List ℕ) (bits : Bits table) (m : Mirrored table n rows n) where
   -- every cell is good
-  no-bad : (a b : ℕ) → a < n → b < n → badAt table n a b ≡ false
-  unfolding badAt
+  no-bad : (a b : ℕ) → a < n → b < n → badIn table n a b ≡ false
   no-bad a b p q =
-      not-bad a b (getD table (a * n + b) 0) (getD table (b * n + a) 0)
+      not-bad (a * n + b) a b (getD table (a * n + b) 0) (getD table (b * n + a) 0)
       (record { bit = bits (a * n + b); off = λ e. same-bits _ 0 (bits (a * n + b)) (omega arith) (rw (sym e) (m .off a p)); even = pick (ℕ-discrete a b) })
     where
       pick : Dec (a ≡ b) → getD table (a * n + b) 0 ≡ getD table (b * n + a) 0

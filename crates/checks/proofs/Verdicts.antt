@@ -15,11 +15,11 @@ use Rattle.site.specs.Limits.{mostRadios, mostLinks, mostPaths}
 use Rattle.site.specs.Map.{Site, links, degree, A}
 use Rattle.site.proofs.Formula.{Even, degrees-twice-links, steps-and-degrees, two-degrees, few-steps}
 use Rattle.log.specs.Bytes.{messageBytes}
-use Rattle.refusals.specs.Refusals.{Call, finding, noSize, mapVerdict, pairVerdict, roomVerdict, number}
-use Rattle.refusals.specs.declared.Finding.the-variants.{Sound, Bad}
+use Rattle.refusals.specs.Refusals.{Call, isBad, finding, passed, noSize, mapVerdict, pairVerdict, roomVerdict, number}
+use Rattle.refusals.specs.declared.Finding.the-variants.{Sound}
 use Rattle.refusals.specs.declared.Verdict.{Verdict}
-use Rattle.refusals.specs.declared.Verdict.the-variants.{Accepted, Radios, TableLength, Cell, Links, Ends, Wanted, Log, Lists}
-use Rattle.refusals.proofs.Exactly.{map-exact, pair-exact, told-by-map, told-by-pair, told-by-room}
+use Rattle.refusals.specs.declared.Verdict.the-variants.{Accepted, Radios, TableLength, Links, Ends, Wanted, Log, Lists}
+use Rattle.refusals.proofs.Exactly.{bad-number, map-exact, pair-exact, told-by-map, told-by-pair, told-by-room}
 use Rattle.refusals.proofs.Accepted.{SoundMap, sound-map, GoodPair, good-pair}
 use Rattle.checks.specs.Checked.{size, Countable, mostSteps, MapJudged, Judged}
 use Rattle.radios.specs.Links.{RowsOfLinks}
@@ -33,7 +33,7 @@ all-sizes table n rows most rows-are even = sum-ext (size rows) _ n (λ u l. siz
 
 -- ---- 1 to 4: the map's verdict at each return
 
--- a map that 1 to 3 let pass, with its rows and their total
+-- a map that the refusals before 4 let pass, with its rows and their total
 pub record Mapped (table : List ℕ) (n : ℕ) (rows : List ℕ) (total : ℕ) : Type 0 where
   pub two : 2 ≤ n
   pub most : n ≤ mostRadios
@@ -57,9 +57,11 @@ module _ {table : List ℕ} {n : ℕ} where
       unfolding mapVerdict
       told-length h = refused (simp (le-ltb _ _ two, le-ltb _ _ most, ne-eqb _ _ h)) (λ e. omega arith)
 
-      pub told-cell : length table ≡ n * n → (place : ℕ) → finding table n ≡ Bad place → MapJudged table n rows (record { verdict = Cell place; total = 0 })
+      pub told-cell : length table ≡ n * n → {v : Verdict} → v ≡ passed (finding table n) → isBad (finding table n) ≡ true → MapJudged table n rows (record { verdict = v; total = 0 })
       unfolding mapVerdict
-      told-cell long place h = refused (simp (le-ltb _ _ two, le-ltb _ _ most, eq-eqb _ _ long, h)) (λ e. omega arith)
+      told-cell long told bad =
+          let some = bad-number (finding table n) bad in
+          rw told (refused (simp (le-ltb _ _ two, le-ltb _ _ most, eq-eqb _ _ long, ne-eqb _ _ some)) some)
 
   module _ {rows : List ℕ} {total : ℕ} (m : Mapped table n rows total) where
     twice : total ≡ 2 * links table n

@@ -1,4 +1,4 @@
-// The checks before a run: the table with its links as sets of radios, the number of steps, and refusals 1 to 8.
+// The checks before a run: the table with its links as sets of radios, the number of steps, and the refusals of a call.
 ghost use mathlib.Core.Path.{_≡_};
 ghost use mathlib.Core.Bool.{true, _&&_, _||_};
 ghost use mathlib.Core.Logic.{_↔_};
@@ -9,7 +9,7 @@ ghost use Rattle.basics.specs.Counting.{oneIf, sum};
 ghost use Rattle.radios.specs.Bytes.{Bits, isOne};
 ghost use Rattle.radios.specs.Member.{member};
 ghost use Rattle.site.specs.Limits.{mostRadios, mostPaths};
-ghost use Rattle.refusals.specs.Refusals.{bad, finding, callOf, pairVerdict, roomVerdict};
+ghost use Rattle.refusals.specs.Refusals.{cellFinding, finding, callOf, pairVerdict, roomVerdict};
 ghost use Rattle.checks.specs.Checked.{AgreeTo, joined, size, Gathered, Checked, Countable, MapJudged, mostSteps, Judged};
 use refusals::Finding;
 use refusals::Verdict;
@@ -17,17 +17,20 @@ use refusals::Verdict;
 // So many cells of a row are read at once.
 const AT_ONCE: usize = 8;
 
-// Is the cell of row i and column j bad: not 0 or 1, or on the diagonal and not 0, or unlike its mirror cell?
-fn is_bad(i: usize, j: usize, cell: u8, mirror: u8) -> bool
-    ensures { λ r. ⌜ r ≡ bad i j cell mirror ⌝ }
+// What is wrong with the cell of row i and column j, at this place: the first of the three kinds that it is of.
+fn judge_cell(place: usize, i: usize, j: usize, cell: u8, mirror: u8) -> Finding
+    ensures { λ r. ⌜ r ≡ cellFinding place i j cell mirror ⌝ }
 {
     if cell > 1 {
-        return true;
+        return Finding::Value(place);
     }
     if i == j && cell != 0 {
-        return true;
+        return Finding::Diagonal(place);
     }
-    cell != mirror
+    if cell != mirror {
+        return Finding::Mirror(place);
+    }
+    Finding::Sound
 }
 
 // Every row emptied, whatever it held.
@@ -158,8 +161,8 @@ fn gather(table: &[u8], n: usize, rows: &mut [u64; 64]) -> bool
     true
 }
 
-// The first bad cell in row order, where there is one. It is never below the diagonal, where its mirror cell comes first,
-// so a row is scanned from the diagonal on.
+// The first bad cell in row order, where there is one, and what is wrong with it. It is never below the diagonal, where its
+// mirror cell comes first, so a row is scanned from the diagonal on.
 fn first_bad(table: &[u8], n: usize) -> Finding
     requires { ⌜ (n ≤ mostRadios) × (length (now table) ≡ n * n) ⌝ }
     ensures { λ r. ⌜ r ≡ finding (now (table .entry)) n ⌝ }
@@ -169,8 +172,8 @@ fn first_bad(table: &[u8], n: usize) -> Finding
         for j in i..n {
             let at = site::place(n, i, j);
             let mirror = site::place(n, j, i);
-            if is_bad(i, j, table[at], table[mirror]) {
-                found = Finding::Bad(at);
+            found = judge_cell(at, i, j, table[at], table[mirror]);
+            if refusals::is_bad(found) {
                 break 'rows;
             }
         }
@@ -215,13 +218,13 @@ fn steps(rows: &[u64; 64], total: usize, n: usize, s: usize, t: usize) -> usize
     others
 }
 
-// What the checks of a map answer: the verdict on refusals 1 to 4, and for an accepted map twice the number of its links.
+// What the checks of a map answer: the verdict on it, and for an accepted map twice the number of its links.
 pub struct MapAnswer {
     pub verdict: Verdict,
     pub total: usize,
 }
 
-// Refusals 1 to 4. An accepted map finds its links in the rows; after a refusal they hold what the checks left there.
+// Refusals 1 to 4, 12 and 13. An accepted map finds its links in the rows; after a refusal they hold what the checks left there.
 pub fn judge_map(n: usize, table: &[u8], rows: &mut [u64; 64]) -> MapAnswer
     ensures { λ r. ⌜ MapJudged (now (table .entry)) n (now (rows .exit)) r ⌝ }
 {
@@ -237,9 +240,10 @@ pub fn judge_map(n: usize, table: &[u8], rows: &mut [u64; 64]) -> MapAnswer
             total: 0,
         };
     }
-    if let Finding::Bad(cell) = check_table(table, n, rows) {
+    let found = check_table(table, n, rows);
+    if refusals::is_bad(found) {
         return MapAnswer {
-            verdict: Verdict::Cell(cell),
+            verdict: refusals::passed_on(found),
             total: 0,
         };
     }
@@ -285,7 +289,7 @@ pub fn judge_room(n: usize, k: usize, steps: usize, log: usize, paths: usize, cu
     Verdict::Accepted
 }
 
-// What a call is told before any token is sent: refusals 1 to 8 in this order. log, paths and cut are the lengths of
+// What a call is told before any token is sent: the refusals in their order. log, paths and cut are the lengths of
 // the lent buffers. An accepted call finds its links in the rows; after a refusal they hold what the checks left there.
 pub fn judge(
     n: usize,

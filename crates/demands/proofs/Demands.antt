@@ -14,6 +14,7 @@ use Rattle.basics.specs.Lists.{All}
 use Rattle.site.specs.Map.{Site, inHalf, outHalf, A}
 use Rattle.site.specs.Paths.{Path, Largest}
 use Rattle.refusals.specs.Refusals.{Call, mostMessages, verdict, number}
+use Rattle.refusals.specs.Conditions.{ofCell}
 use Rattle.refusals.proofs.Exactly.{no-place}
 use Rattle.site.proofs.Valid.{Valid}
 use Rattle.refusals.proofs.Accepted.{Room, accepted-valid, accepted-room}
@@ -215,7 +216,7 @@ module _ (call : Call) (accepted : outcome call .refusal ≡ 0) where
   unfolding outcome
   numbers-left = λ i. record {
     refusal = no-refusal i;
-    place = no-place (verdict call) (λ (e : number (verdict call) ≡ 3). omega (arith, no-refusal)) i;
+    place = no-place (verdict call) (ap ofCell no-refusal) i;
     paths = counted (length (pathsFound call)) 0 i;
     rounds = counted (notesOf (runOf call .last) .round) 0 i;
     messages = counted (length (runOf call .log)) 0 i;

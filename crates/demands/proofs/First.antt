@@ -33,4 +33,4 @@ pub demand-1 : (call : Call) → Demand1 call
 unfolding outcome
 demand-1 call =
     let exact = call-exact call in
-    record { refused = exact .law .given; accepted = exact .law .none; place-of-3 = exact .place-of-3; no-place = no-place (verdict call); nothing-left = nothing-left call }
+    record { refused = exact .law .given; accepted = exact .law .none; place-of-cell = exact .cell; no-place = no-place (verdict call); nothing-left = nothing-left call }

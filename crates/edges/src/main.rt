@@ -8,7 +8,7 @@ use libc::STDIN_FILENO;
 use libc::STDOUT_FILENO;
 use outcome::Outcome;
 
-// Room for three times the calls that there are.
+// Room for twice the calls that there are.
 const TEXT_BYTES: usize = 16384;
 
 const LINE_FEED: u8 = 10;
@@ -59,16 +59,19 @@ const SPOKES: usize = 11;
 
 const SPOILED: usize = 12;
 
-const KEPT: usize = 13;
+const HELD: usize = 13;
+
+const KEPT: usize = 14;
 
 // The radios below `circle` stand in a circle, each linked to those at most `reach` places away; radio 0 is linked
-// to the `spokes` radios after those too. The cell at place `spoiled` holds 2, where the table has that place.
+// to the `spokes` radios after those too. The cell at place `spoiled` holds `held` instead, where the table has that place.
 struct Map {
     radios: usize,
     circle: usize,
     reach: usize,
     spokes: usize,
     spoiled: usize,
+    held: u8,
 }
 
 struct Question {
@@ -134,6 +137,15 @@ fn number_in(line: &[u8], column: usize) -> usize {
     number
 }
 
+// A number that no byte can hold is the largest byte.
+fn byte_in(line: &[u8], column: usize) -> u8 {
+    let number = number_in(line, column);
+    if number > 255 {
+        return 255;
+    }
+    number as u8
+}
+
 // So many bytes of these as the line says, or all where there are fewer.
 fn length_in(line: &[u8], column: usize, bytes: &[u8]) -> usize
     ensures { λ r. ⌜ Counts r (now (bytes .entry)) ⌝ }
@@ -168,7 +180,7 @@ fn is_linked(map: Map, low: usize, high: usize) -> bool {
 fn cell(map: Map, place: usize) -> u8 {
     let radios = map.radios;
     if place == map.spoiled {
-        return 2;
+        return map.held;
     }
     if radios == 0 {
         return 0;
@@ -197,6 +209,7 @@ fn map_in(line: &[u8]) -> Map {
         reach: number_in(line, REACH),
         spokes: number_in(line, SPOKES),
         spoiled: number_in(line, SPOILED),
+        held: byte_in(line, HELD),
     }
 }
 

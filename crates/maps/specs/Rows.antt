@@ -1,4 +1,4 @@
--- "Maps on both sides of each edge" of document 01: its ten rows proved together, and the case Q with k = 3 given whole.
+-- "Maps on both sides of each edge" of document 01, the last row as document 02 amends it: the ten rows proved together, and the case Q with k = 3 given whole.
 use mathlib.Core.Path.{_≡_, refl}
 use mathlib.Core.Bool.{Bool, true, false}
 use mathlib.Core.List.{List, [], _∷_, map}
@@ -7,7 +7,7 @@ use lib.Dec.{eqb}
 use lib.ListN.{length, set, replicate}
 use Rattle.basics.specs.Counting.{sum, firstOf}
 use Rattle.site.specs.Map.{linked, links, exists, passes, insideStep, linkStep, step, A}
-use Rattle.refusals.specs.Refusals.{Call, callOf, bad, badAt, badCell, firstBad, finding, mapVerdict, pairVerdict, roomVerdict, verdict}
+use Rattle.refusals.specs.Refusals.{Call, callOf, cellFinding, findingAt, firstBad, finding, mapVerdict, pairVerdict, roomVerdict, verdict}
 use Rattle.tokens.specs.Rules.{mayWalk, candidate, canTry, nextPlace, gets, nextMarked, passOn, release, carry, tries, search, reversed, grant, decline, goOn, innerStep, start}
 use Rattle.tokens.specs.Run.{runOn, walked, cutItem, itemOf}
 use Rattle.outcome.specs.declared.Outcome.{Outcome}
@@ -128,12 +128,12 @@ rows =
     ∷ accepts 8 Q 0 7 1 true ((0 ∷ 1 ∷ 2 ∷ 3 ∷ 7 ∷ []) ∷ []) 1 31 [] 20
     ∷ accepts 8 Q 0 7 2 true ((0 ∷ 1 ∷ 6 ∷ 7 ∷ []) ∷ (0 ∷ 4 ∷ 3 ∷ 7 ∷ []) ∷ []) 2 62 [] 20
     ∷ refuses 2 (tableOf 2 ((0, 1) ∷ [])) 1 1 1 5 0
-    ∷ refuses 2 (0 ∷ 1 ∷ 0 ∷ 0 ∷ []) 0 1 1 3 1
+    ∷ refuses 2 (0 ∷ 1 ∷ 0 ∷ 0 ∷ []) 0 1 1 13 1
     ∷ []
 
 -- every row of the table is what the definitions say
 pub ten-maps : map (λ (row : MapRow). resultOf (row .made)) rows ≡ map (λ (row : MapRow). row .result) rows
-unfolding sum firstOf linked links exists passes insideStep linkStep step A bad badAt badCell firstBad finding mapVerdict pairVerdict roomVerdict verdict mayWalk candidate canTry nextPlace gets nextMarked passOn release carry tries search reversed grant decline goOn innerStep start runOn walked cutItem itemOf runOf pathsFound cutFound pathBytes logBytes outcome logLeft pathsLeft cutLeft
+unfolding sum firstOf linked links exists passes insideStep linkStep step A cellFinding findingAt firstBad finding mapVerdict pairVerdict roomVerdict verdict mayWalk candidate canTry nextPlace gets nextMarked passOn release carry tries search reversed grant decline goOn innerStep start runOn walked cutItem itemOf runOf pathsFound cutFound pathBytes logBytes outcome logLeft pathsLeft cutLeft
 ten-maps = refl
 
 -- ---- the case given whole
@@ -169,5 +169,5 @@ wholeOf call = record { numbers = outcome call; log = logLeft call; pathList = p
 pub case-Q :
     wholeOf (callOf 8 (tableOf 8 Q) 0 7 3 560 15 3)
     ≡ record { numbers = shortOfQ; log = zerosAfter 560 logOfQ; pathList = zerosAfter 15 (4 ∷ 0 ∷ 1 ∷ 6 ∷ 7 ∷ 4 ∷ 0 ∷ 4 ∷ 3 ∷ 7 ∷ []); cutList = 1 ∷ 4 ∷ 0 ∷ [] }
-unfolding sum firstOf linked links exists passes insideStep linkStep step A bad badAt badCell firstBad finding mapVerdict pairVerdict roomVerdict verdict mayWalk candidate canTry nextPlace gets nextMarked passOn release carry tries search reversed grant decline goOn innerStep start runOn walked cutItem itemOf runOf pathsFound cutFound pathBytes logBytes outcome logLeft pathsLeft cutLeft
+unfolding sum firstOf linked links exists passes insideStep linkStep step A cellFinding findingAt firstBad finding mapVerdict pairVerdict roomVerdict verdict mayWalk candidate canTry nextPlace gets nextMarked passOn release carry tries search reversed grant decline goOn innerStep start runOn walked cutItem itemOf runOf pathsFound cutFound pathBytes logBytes outcome logLeft pathsLeft cutLeft
 case-Q = refl

@@ -1,7 +1,7 @@
 -- What the refusals that do not come guarantee, part by part: a sound map, a pair that can be asked for, and room enough. Assumes nothing.
 use mathlib.Core.Path.{_≡_, refl, sym}
 use mathlib.Core.Bool.{Bool, true, false, not, _||_, _&&_, and-false, true≢false}
-use mathlib.Core.List.{List, _++_}
+use mathlib.Core.List.{List, [], _∷_, _++_}
 use mathlib.Core.Logic.{inl, inr}
 use Prim.Native.Nat.{ℕ, _+_, _-_, _*_, _≤_, _<_}
 use native.Mathlib.Omega.{arith}
@@ -10,6 +10,7 @@ use lib.Dec.{eqb, ltb}
 use lib.ListN.{length, getD}
 use borrow.Author.Tests.{ltb-false, le-ltb, lt-ltb, eq-eqb, ne-eqb}
 use Rattle.basics.specs.Numbered.{NoneHolds}
+use Rattle.basics.proofs.Bools.{not-true→false}
 use Rattle.basics.proofs.Numbered.{none-parts}
 use Rattle.basics.proofs.Places.{row-of, column-of, in-table}
 use Rattle.site.specs.Limits.{mostRadios, mostLinks, mostPaths}
@@ -18,9 +19,9 @@ use Rattle.site.proofs.Formula.{Even}
 use Rattle.site.proofs.Valid.{Valid}
 use Rattle.log.specs.Bytes.{messageBytes}
 use Rattle.refusals.specs.Refusals.{Call, noSize, finding, logNeeds, pathsNeed, verdict, number}
-use Rattle.refusals.specs.Conditions.{Fault, mirror, mapConditions, pairConditions, roomConditions}
+use Rattle.refusals.specs.Conditions.{Fault, mirror, cellConditions, mapConditions, pairConditions, roomConditions}
 use Rattle.refusals.specs.declared.Finding.the-variants.{Sound}
-use Rattle.refusals.proofs.Exactly.{finds-nothing, call-exact}
+use Rattle.refusals.proofs.Exactly.{finds-nothing, bad-number, sound-table, cells-exact, call-exact}
 
 -- ---- a table without faults
 
@@ -65,11 +66,13 @@ pub record SoundMap (table : List ℕ) (n : ℕ) : Type 0 where
   pub few-links : links table n ≤ mostLinks
 
 pub sound-map : (table : List ℕ) (n : ℕ) → NoneHolds (mapConditions table n) → SoundMap table n
-sound-map table n (radios, (length-differs, (faults, (many-links, end)))) =
+sound-map table n (radios, (length-differs, others)) =
     let some : n < 2 → ⊥ = λ p. radios (inl p) in
     let few : mostRadios < n → ⊥ = λ p. radios (inr p) in
-    let no-fault : (place : ℕ) → place < n * n → Fault table n place → ⊥ = λ place p fault. faults (place, p, fault) in
-    record { two-radios = omega arith; few-radios = omega arith; long = go (ℕ-discrete _ _); no-fault = no-fault; sound = finds-nothing table n no-fault; even = even-links table n no-fault; few-links = omega arith }
+    let (cells, (many-links, end)) = none-parts (cellConditions table n) ((4, mostLinks < links table n) ∷ []) others in
+    let sound : finding table n ≡ Sound = finds-nothing (finding table n) (not-true→false _ (λ bad. bad-number (finding table n) bad (cells-exact table n .law .none .1 cells))) in
+    let no-fault = sound-table table n sound in
+    record { two-radios = omega arith; few-radios = omega arith; long = go (ℕ-discrete _ _); no-fault = no-fault; sound = sound; even = even-links table n no-fault; few-links = omega arith }
   where
     go : Dec (length table ≡ n * n) → length table ≡ n * n
     go (yes e) = e

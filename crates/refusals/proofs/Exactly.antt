@@ -1,59 +1,113 @@
 -- Demand 1 over the refusals: each number is given exactly when its own condition holds and none before it does. Assumes nothing.
-use mathlib.Core.Path.{_≡_, refl, sym, _∙_}
-use mathlib.Core.Bool.{Bool, true, false, _||_, cond, true≢false, false≢true}
+use mathlib.Core.Path.{_≡_, refl, sym, ap, _∙_}
+use mathlib.Core.Bool.{Bool, true, false, not, _&&_, _||_, cond, true≢false, false≢true}
 use mathlib.Core.List.{List, [], _∷_, _++_}
-use mathlib.Core.Logic.{_⊎_, inl, inr}
+use mathlib.Core.Logic.{_⊎_, _↔_, inl, inr}
 use Prim.Native.Nat.{ℕ, _+_, _*_, _/_, _%_, _<_, _≤_}
 use native.Mathlib.Omega.{arith}
+use native.Mathlib.Decide.{decLt}
 use native.Mathlib.Nat.{div-add-mod'}
 use lib.Dec.{eqb, ltb}
 use lib.ListN.{getD}
-use borrow.Author.Tests.{eq-eqb, ne-eqb, ltb-true, ltb-false}
+use borrow.Author.Tests.{eq-eqb, ne-eqb, lt-ltb, le-ltb}
 use Rattle.basics.specs.Counting.{First}
-use Rattle.basics.specs.Numbered.{Conditions, Lawful}
+use Rattle.basics.specs.Numbered.{Conditions, Gives, NoneHolds, Lawful}
 use Rattle.basics.proofs.Bools.{clash, or-left, or-right, Tells, tells-below, tells-not-below, tells-equal, tells-or, tells-and, tells-not, tells-same}
 use Rattle.basics.proofs.Counting.{first-from}
-use Rattle.basics.proofs.Numbered.{law-one, law-after}
+use Rattle.basics.proofs.Numbered.{law-none, law-first, law-one, law-after, law-each}
 use Rattle.site.specs.Limits.{mostRadios, mostPaths}
 use Rattle.site.specs.Map.{A}
-use Rattle.refusals.specs.Refusals.{Call, bad, badAt, badCell, firstBad, finding, refuse, passed, _orElse_, noSize, sizeVerdict, mapVerdict, pairVerdict, roomVerdict, verdict, number, placeOf}
-use Rattle.refusals.specs.Conditions.{Fault, no-bit, diagonal, mirror, FirstFault, sizeConditions, mapConditions, pairConditions, roomConditions, conditions}
-use Rattle.refusals.specs.declared.Finding.the-variants.{Sound, Bad}
+use Rattle.refusals.specs.Refusals.{Call, cellFinding, findingAt, isBad, firstBad, finding, refuse, passed, _orElse_, noSize, sizeVerdict, mapVerdict, pairVerdict, roomVerdict, verdict, number, placeOf}
+use Rattle.refusals.specs.Conditions.{OnDiagonal, Unlike, kinds, ofCell, Fault, no-bit, diagonal, mirror, FirstFault, FirstIs, sizeConditions, cellConditions, mapConditions, pairConditions, roomConditions, conditions}
+use Rattle.refusals.specs.declared.Finding.{Finding}
+use Rattle.refusals.specs.declared.Finding.the-variants.{Sound, Value, Diagonal, Mirror}
 use Rattle.refusals.specs.declared.Verdict.{Verdict}
-use Rattle.refusals.specs.declared.Verdict.the-variants.{Accepted, Radios, TableLength, Cell, Links, Ends, Wanted, Log, Lists, Records, PathList}
+use Rattle.refusals.specs.declared.Verdict.the-variants.{Accepted, Radios, TableLength, CellValue, CellDiagonal, CellMirror, Links, Ends, Wanted, Log, Lists, Records, PathList}
 
--- ---- the table's cells
+-- ---- one cell
 
-abbrev Words : ℕ → ℕ → ℕ → ℕ → Type 0
-Words i j cell other = ((1 < cell) ⊎ ((i ≡ j) × (cell ≡ 0 → ⊥))) ⊎ (cell ≡ other → ⊥)
+abbrev numberOf : Finding → ℕ
+numberOf found = number (passed found)
 
-bad-words : (i j cell other : ℕ) → Tells (bad i j cell other) (Words i j cell other)
-unfolding bad
-bad-words i j cell other =
-    tells-or _ _ (tells-or _ _ (tells-below 1 cell) (tells-and _ _ (tells-equal i j) (tells-not _ (tells-equal cell 0)))) (tells-not _ (tells-equal cell other))
+-- a finding that is not bad finds nothing, and a bad one has a number
+pub finds-nothing : (found : Finding) → isBad found ≡ false → found ≡ Sound
+finds-nothing Sound e = refl
+finds-nothing (Value place) e = absurd (true≢false e)
+finds-nothing (Diagonal place) e = absurd (true≢false e)
+finds-nothing (Mirror place) e = absurd (true≢false e)
 
--- a cell is bad exactly if it has a fault
-pub bad-cell : (table : List ℕ) (n place : ℕ) → Tells (badCell table n place) (Fault table n place)
-unfolding badAt badCell
-bad-cell table n place = rw (div-add-mod' place n) (tells-same _ (bad-words (place / n) (place % n) (getD table place 0) (getD table (place % n * n + place / n) 0)) (to, back))
+pub bad-number : (found : Finding) → isBad found ≡ true → numberOf found ≡ 0 → ⊥
+bad-number Sound e z = false≢true e
+bad-number (Value place) e z = omega arith
+bad-number (Diagonal place) e z = omega arith
+bad-number (Mirror place) e z = omega arith
+
+bad-told : (found : Finding) → (numberOf found ≡ 0 → ⊥) → isBad found ≡ true
+bad-told found some = go (isBad found) refl
   where
-    to : Words (place / n) (place % n) (getD table place 0) (getD table (place % n * n + place / n) 0) → Fault table n place
-    to (inl (inl p)) = no-bit (λ e. omega arith) (λ e. omega arith)
-    to (inl (inr p)) = diagonal (p .0) (p .1)
-    to (inr p) = mirror p
+    go : (b : Bool) → isBad found ≡ b → b ≡ true
+    go true e = refl
+    go false e = absurd (some (ap numberOf (finds-nothing found e)))
 
-    back : Fault table n place → Words (place / n) (place % n) (getD table place 0) (getD table (place % n * n + place / n) 0)
-    back (no-bit p q) = inl (inl (omega arith))
-    back (diagonal p q) = inl (inr (p, q))
-    back (mirror p) = inr p
+module _ (table : List ℕ) (n : ℕ) where
+  -- the finding at a cell has the number of its first kind
+  pub kind-law : (place : ℕ) → Lawful numberOf (kinds table n place) (findingAt table n place)
+  unfolding cellFinding findingAt
+  kind-law place =
+      law-first numberOf (Value place) _ (λ e. omega arith) (tells-same _ (tells-below 1 (getD table place 0)) ((λ p. (λ e. omega arith, λ e. omega arith)), (λ p. omega (arith, p .0, p .1))))
+      (law-first numberOf (Diagonal place) _ (λ e. omega arith) (tells-and _ _ (tells-equal _ _) (tells-not _ (tells-equal _ _)))
+      (law-first numberOf (Mirror place) _ (λ e. omega arith) (tells-not _ (tells-equal _ _))
+      (law-none numberOf Sound refl)))
+
+  -- and its place
+  fault-place : (place : ℕ) → isBad (findingAt table n place) ≡ true → placeOf (passed (findingAt table n place)) ≡ place
+  unfolding cellFinding findingAt
+  fault-place place = go (ltb 1 cell) (eqb (place / n) (place % n) && not (eqb cell 0)) (not (eqb cell (getD table (place % n * n + place / n) 0)))
+    where
+      cell : ℕ
+      cell = getD table place 0
+
+      go : (value own other : Bool)
+          → let found = cond value (Value place) (cond own (Diagonal place) (cond other (Mirror place) Sound)) in
+          isBad found ≡ true → placeOf (passed found) ≡ place
+      go true own other e = refl
+      go false true other e = refl
+      go false false true e = refl
+      go false false false e = absurd (false≢true e)
+
+  -- a cell is bad exactly if it has a fault
+  pub bad-cell : (place : ℕ) → Tells (isBad (findingAt table n place)) (Fault table n place)
+  bad-cell place = (λ e. of-kind (law .given _ (bad-number (findingAt table n place) e) .0 refl), λ fault. bad-told (findingAt table n place) (λ zero. no-kind fault (law .none .0 zero)))
+    where
+      law : Lawful numberOf (kinds table n place) (findingAt table n place)
+      law = kind-law place
+
+      of-kind : {c : ℕ} → Gives (kinds table n place) c → Fault table n place
+      of-kind (inl (e, p)) = no-bit p
+      of-kind (inr (p₁, inl (e, p))) = diagonal p
+      of-kind (inr (p₁, inr (p₂, inl (e, p)))) = mirror p
+      of-kind (inr (p₁, inr (p₂, inr (p₃, g)))) = absurd g
+
+      no-kind : Fault table n place → NoneHolds (kinds table n place) → ⊥
+      no-kind (no-bit p) none = none .0 p
+      no-kind (diagonal p) none = none .1 .0 p
+      no-kind (mirror p) none = none .1 .1 .0 p
+
+-- a cell on the diagonal is its own mirror cell, so no cell is of both kinds
+pub own-mirror : (table : List ℕ) (n place : ℕ) → OnDiagonal table n place → Unlike table n place → ⊥
+own-mirror table n place (on, some) unlike =
+    let itself : place % n * n + place / n ≡ place = rw (sym on) (ap (λ (x : ℕ). place / n * n + x) on ∙ div-add-mod' place n) in
+    unlike (ap (λ (x : ℕ). getD table x 0) (sym itself))
+
+-- ---- the first of them
 
 module _ (table : List ℕ) (n : ℕ) where
   -- what "first" says of the first bad cell
-  first-bad : First (badCell table n) 0 (n * n) (firstBad table n)
+  first-bad : First (λ place. isBad (findingAt table n place)) 0 (n * n) (firstBad table n)
   unfolding firstBad
-  first-bad = first-from (badCell table n) 0 (n * n) (omega arith)
+  first-bad = first-from (λ place. isBad (findingAt table n place)) 0 (n * n) (omega arith)
 
-  pub first-fault : firstBad table n < n * n → FirstFault table n (firstBad table n)
+  first-fault : firstBad table n < n * n → FirstFault table n (firstBad table n)
   first-fault p =
       record {
         within = p;
@@ -61,67 +115,107 @@ module _ (table : List ℕ) (n : ℕ) where
         none-before = λ earlier q fault. true≢false (sym (bad-cell table n earlier .1 fault) ∙ first-bad .before earlier (omega arith) q);
       }
 
-  some-fault : Tells (ltb (firstBad table n) (n * n)) ((place : ℕ) × (place < n * n) × Fault table n place)
-  some-fault = (λ e. let f = first-fault (ltb-true _ _ e) in (firstBad table n, f .within, f .fault), λ w. found (w .0) (w .1) (w .2) (ltb (firstBad table n) (n * n)) refl)
+  -- there is one first cell at fault
+  first-alone : (place : ℕ) → FirstFault table n place → place ≡ firstBad table n
+  first-alone place first = go (decLt (firstBad table n) place) (decLt place (firstBad table n))
     where
-      found : (place : ℕ) → place < n * n → Fault table n place → (b : Bool) → ltb (firstBad table n) (n * n) ≡ b → b ≡ true
-      found place p fault true e = refl
-      found place p fault false e = absurd (true≢false (sym (bad-cell table n place .1 fault) ∙ first-bad .before place (omega arith) (omega (arith, ltb-false (firstBad table n) (n * n) e))))
+      go : Dec (firstBad table n < place) → Dec (place < firstBad table n) → place ≡ firstBad table n
+      go (yes l) r = absurd (first .none-before (firstBad table n) l (first-fault (omega (arith, first .within)) .fault))
+      go (no l) (yes r) = absurd (true≢false (sym (bad-cell table n place .1 (first .fault)) ∙ first-bad .before place (omega arith) r))
+      go (no l) (no r) = omega arith
+
+  -- what is found is the finding there
+  found-there : firstBad table n < n * n → finding table n ≡ findingAt table n (firstBad table n)
+  unfolding finding
+  found-there p = rw (lt-ltb _ _ p) refl
+
+  found-nowhere : n * n ≤ firstBad table n → finding table n ≡ Sound
+  unfolding finding
+  found-nowhere p = rw (le-ltb _ _ p) refl
+
+  -- a finding tells the first cell at fault, by its first kind
+  pub first-told : isBad (finding table n) ≡ true → FirstIs table n (numberOf (finding table n)) (placeOf (passed (finding table n)))
+  first-told bad = go (decLt (firstBad table n) (n * n))
+    where
+      go : Dec (firstBad table n < n * n) → FirstIs table n (numberOf (finding table n)) (placeOf (passed (finding table n)))
+      go (yes p) =
+          let there : isBad (findingAt table n (firstBad table n)) ≡ true = first-bad .found p in
+          rw (found-there p, fault-place table n (firstBad table n) there)
+          (record { first = first-fault p; kind = kind-law table n (firstBad table n) .given _ (bad-number (findingAt table n (firstBad table n)) there) .0 refl })
+      go (no p) = absurd (false≢true (sym (ap isBad (found-nowhere (omega arith))) ∙ bad))
+
+  -- and is the only one that does
+  pub kind-exactly : (c : ℕ) → (c ≡ 0 → ⊥) → (numberOf (finding table n) ≡ c) ↔ ((place : ℕ) × FirstIs table n c place)
+  kind-exactly c apart = (λ told. (placeOf (passed (finding table n)), rw told at (first-told (bad-told (finding table n) (λ zero. apart (sym told ∙ zero))))), λ w. back (w .0) (w .1))
+    where
+      back : (place : ℕ) → FirstIs table n c place → numberOf (finding table n) ≡ c
+      back place is =
+          let there : place ≡ firstBad table n = first-alone place (is .first) in
+          ap numberOf (found-there (omega (arith, is .first .within)))
+          ∙ kind-law table n (firstBad table n) .given c apart .1 (rw there at (is .kind))
 
 -- a table in which the check finds nothing has no fault
 pub sound-table : (table : List ℕ) (n : ℕ) → finding table n ≡ Sound → (place : ℕ) → place < n * n → Fault table n place → ⊥
-unfolding finding
-sound-table table n sound place p fault = go (ltb (firstBad table n) (n * n)) (some-fault table n .1 (place, p, fault)) sound
+sound-table table n sound place p fault = go (decLt (firstBad table n) (n * n))
   where
-    go : (b : Bool) → b ≡ true → cond b (Bad (firstBad table n)) Sound ≡ Sound → ⊥
-    go true e told = let z : _≡_ {A = ℕ} 0 1 = cc in omega arith
-    go false e told = false≢true e
-
--- and the check finds nothing in a table without faults
-pub finds-nothing : (table : List ℕ) (n : ℕ) → ((place : ℕ) → place < n * n → Fault table n place → ⊥) → finding table n ≡ Sound
-unfolding finding
-finds-nothing table n none = go (ltb (firstBad table n) (n * n)) refl
-  where
-    go : (b : Bool) → ltb (firstBad table n) (n * n) ≡ b → cond b (Bad (firstBad table n)) Sound ≡ Sound
-    go true e = let first = first-fault table n (ltb-true _ _ e) in absurd (none _ (first .within) (first .fault))
-    go false e = refl
+    go : Dec (firstBad table n < n * n) → ⊥
+    go (yes q) = false≢true (sym (ap isBad sound) ∙ ap isBad (found-there table n q) ∙ first-bad table n .found q)
+    go (no q) = true≢false (sym (bad-cell table n place .1 fault) ∙ first-bad table n .before place (omega arith) (omega arith))
 
 -- ---- each part of the list, and the whole
 
--- a verdict follows the law of the conditions, and for 3 its place is a bad cell and no earlier cell is bad
+-- a verdict follows the law of the conditions, and one on a cell tells the first at fault
 pub record Exact (table : List ℕ) (n : ℕ) (list : Conditions) (v : Verdict) : Type 0 where
   pub law : Lawful number list v
-  pub place-of-3 : number v ≡ 3 → FirstFault table n (placeOf v)
+  pub cell : ofCell (number v) ≡ true → FirstIs table n (number v) (placeOf v)
 
 module _ {table : List ℕ} {n : ℕ} where
-  -- one refusal other than 3
-  pub one : (v : Verdict) (test : Bool) {P : Type 0} → (eqb (number v) 0 || eqb (number v) 3) ≡ false → Tells test P → Exact table n ((number v, P) ∷ []) (refuse test v)
-  one v test {P} other tells = record { law = law-one number v Accepted test some refl tells; place-of-3 = go test }
+  -- one refusal that is not on a cell
+  pub one : (v : Verdict) (test : Bool) {P : Type 0} → (eqb (number v) 0 || ofCell (number v)) ≡ false → Tells test P → Exact table n ((number v, P) ∷ []) (refuse test v)
+  one v test {P} other tells = record { law = law-one number v Accepted test some refl tells; cell = go test }
     where
       some : number v ≡ 0 → ⊥
       some e = clash (or-left _ _ (eq-eqb _ _ e)) other
 
-      go : (b : Bool) → number (refuse b v) ≡ 3 → FirstFault table n (placeOf (refuse b v))
-      go true e = clash (or-right (eqb (number v) 0) _ (eq-eqb (number v) 3 e)) other
-      go false e = absurd (omega arith)
+      go : (b : Bool) → ofCell (number (refuse b v)) ≡ true → FirstIs table n (number (refuse b v)) (placeOf (refuse b v))
+      go true e = clash (or-right (eqb (number v) 0) _ e) other
+      go false e = absurd (false≢true e)
 
   infixl 25 _then_
   -- the refusals of one list, then those of another
   pub _then_ : {list next : Conditions} {v w : Verdict} → Exact table n list v → Exact table n next w → Exact table n (list ++ next) (v orElse w)
-  _then_ {v} {w} first second = record { law = law-after number (first .law) (second .law); place-of-3 = go (eqb (number v) 0) }
+  _then_ {v} {w} first second = record { law = law-after number (first .law) (second .law); cell = go (eqb (number v) 0) }
     where
-      go : (b : Bool) → number (cond b w v) ≡ 3 → FirstFault table n (placeOf (cond b w v))
-      go true = second .place-of-3
-      go false = first .place-of-3
+      go : (b : Bool) → ofCell (number (cond b w v)) ≡ true → FirstIs table n (number (cond b w v)) (placeOf (cond b w v))
+      go true = second .cell
+      go false = first .cell
 
-cells-exact : (table : List ℕ) (n : ℕ) → Exact table n ((3, (place : ℕ) × (place < n * n) × Fault table n place) ∷ []) (passed (finding table n))
-unfolding finding
-cells-exact table n = go (ltb (firstBad table n) (n * n)) refl (some-fault table n)
-  where
-    go : (b : Bool) → ltb (firstBad table n) (n * n) ≡ b → Tells b ((place : ℕ) × (place < n * n) × Fault table n place)
-        → Exact table n ((3, (place : ℕ) × (place < n * n) × Fault table n place) ∷ []) (passed (cond b (Bad (firstBad table n)) Sound))
-    go true e tells = record { law = law-one number (Cell (firstBad table n)) Accepted true (λ q. omega arith) refl tells; place-of-3 = λ q. first-fault table n (ltb-true _ _ e) }
-    go false e tells = record { law = law-one number (Cell (firstBad table n)) Accepted false (λ q. omega arith) refl tells; place-of-3 = λ q. absurd (omega arith) }
+module _ (table : List ℕ) (n : ℕ) where
+  abbrev Exactly : ℕ → Type 0
+  Exactly c = (number (passed (finding table n)) ≡ c) ↔ ((place : ℕ) × FirstIs table n c place)
+
+  exactly-3 : Exactly 3
+  exactly-3 = kind-exactly table n 3 (λ e. omega arith)
+
+  exactly-12 : Exactly 12
+  exactly-12 = kind-exactly table n 12 (λ e. omega arith)
+
+  exactly-13 : Exactly 13
+  exactly-13 = kind-exactly table n 13 (λ e. omega arith)
+
+  -- no other number is told of a table
+  no-other : NoneHolds (cellConditions table n) → (found : Finding) → numberOf (finding table n) ≡ numberOf found → number (passed (finding table n)) ≡ 0
+  no-other none Sound e = e
+  no-other none (Value place) e = absurd (none .0 (exactly-3 .0 e))
+  no-other none (Diagonal place) e = absurd (none .1 .0 (exactly-12 .0 e))
+  no-other none (Mirror place) e = absurd (none .1 .1 .0 (exactly-13 .0 e))
+
+  pub cells-exact : Exact table n (cellConditions table n) (passed (finding table n))
+  cells-exact =
+      record {
+        law = law-each number _ _ (λ e. omega arith, exactly-3, (λ e. omega arith, exactly-12, (λ e. omega arith, exactly-13, tt))) (λ none. no-other none (finding table n) refl);
+        cell = λ e. first-told table n (bad-told (finding table n) (λ zero. clash e (ap ofCell zero)));
+      }
 
 -- 1 in words
 pub size-tells : (n : ℕ) → Tells (noSize n) ((n < 2) ⊎ (mostRadios < n))
@@ -185,12 +279,14 @@ module _ (call : Call) where
   unfolding verdict
   told-by-room accepted fine = simp (eq-eqb _ _ accepted, eq-eqb _ _ fine)
 
--- only 3 has a place
-pub no-place : (v : Verdict) → (number v ≡ 3 → ⊥) → placeOf v ≡ 0
+-- only a cell has a place
+pub no-place : (v : Verdict) → ofCell (number v) ≡ false → placeOf v ≡ 0
 no-place Accepted h = refl
 no-place Radios h = refl
 no-place TableLength h = refl
-no-place (Cell place) h = absurd (h refl)
+no-place (CellValue place) h = absurd (true≢false h)
+no-place (CellDiagonal place) h = absurd (true≢false h)
+no-place (CellMirror place) h = absurd (true≢false h)
 no-place Links h = refl
 no-place Ends h = refl
 no-place Wanted h = refl

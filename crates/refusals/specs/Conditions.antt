@@ -1,20 +1,48 @@
--- The column "given exactly when" of document 01's table of refusals, as facts about a call.
+-- The column "given exactly when" of document 01's table of refusals, with 12 and 13 of document 02, as facts about a call.
 use mathlib.Core.Path.{_≡_}
+use mathlib.Core.Bool.{Bool, _||_}
 use mathlib.Core.List.{List, [], _∷_, _++_}
 use mathlib.Core.Logic.{_⊎_}
 use Prim.Native.Nat.{ℕ, _+_, _-_, _*_, _/_, _%_, _<_, _≤_}
+use lib.Dec.{eqb}
 use lib.ListN.{length, getD}
-use Rattle.basics.specs.Numbered.{Conditions}
+use Rattle.basics.specs.Numbered.{Conditions, Gives}
 use Rattle.site.specs.Limits.{mostRadios, mostLinks, mostPaths}
 use Rattle.site.specs.Map.{links, A}
 use Rattle.log.specs.Bytes.{messageBytes}
 use Rattle.refusals.specs.Refusals.{Call}
 
--- the cell at this place is not 0 or 1, or is on the diagonal and not 0, or differs from its mirror cell
+-- ---- 3, 12 and 13: the kinds of fault
+
+-- the cell at this place is not 0 or 1
+abbrev pub NoBit : List ℕ → ℕ → Type 0
+NoBit table place = (getD table place 0 ≡ 0 → ⊥) × (getD table place 0 ≡ 1 → ⊥)
+
+-- it is on the diagonal and not 0
+abbrev pub OnDiagonal : List ℕ → ℕ → ℕ → Type 0
+OnDiagonal table n place = (place / n ≡ place % n) × (getD table place 0 ≡ 0 → ⊥)
+
+-- it differs from its mirror cell
+abbrev pub Unlike : List ℕ → ℕ → ℕ → Type 0
+Unlike table n place = getD table place 0 ≡ getD table (place % n * n + place / n) 0 → ⊥
+
+-- in the order in which they are tried at one cell
+abbrev pub kinds : List ℕ → ℕ → ℕ → Conditions
+kinds table n place =
+    (3, NoBit table place)
+    ∷ (12, OnDiagonal table n place)
+    ∷ (13, Unlike table n place)
+    ∷ []
+
+-- these numbers tell of a cell
+abbrev pub ofCell : ℕ → Bool
+ofCell c = eqb c 3 || eqb c 12 || eqb c 13
+
+-- a cell at fault is of one of the kinds
 pub data Fault (table : List ℕ) (n place : ℕ) : Type 0 where
-  no-bit : (getD table place 0 ≡ 0 → ⊥) → (getD table place 0 ≡ 1 → ⊥) → Fault table n place
-  diagonal : place / n ≡ place % n → (getD table place 0 ≡ 0 → ⊥) → Fault table n place
-  mirror : (getD table place 0 ≡ getD table (place % n * n + place / n) 0 → ⊥) → Fault table n place
+  no-bit : NoBit table place → Fault table n place
+  diagonal : OnDiagonal table n place → Fault table n place
+  mirror : Unlike table n place → Fault table n place
 
 -- the first such cell in row order
 pub record FirstFault (table : List ℕ) (n place : ℕ) : Type 0 where
@@ -22,17 +50,32 @@ pub record FirstFault (table : List ℕ) (n place : ℕ) : Type 0 where
   pub fault : Fault table n place
   pub none-before : (earlier : ℕ) → earlier < place → Fault table n earlier → ⊥
 
+-- the first cell at fault is at this place, and it is of the kind with number c and of no kind before it
+pub record FirstIs (table : List ℕ) (n c place : ℕ) : Type 0 where
+  pub first : FirstFault table n place
+  pub kind : Gives (kinds table n place) c
+
+-- ---- the list, part by part
+
 -- 1: n radios
 abbrev pub sizeConditions : ℕ → Conditions
 sizeConditions n = (1, (n < 2) ⊎ (mostRadios < n)) ∷ []
 
--- 1 to 4: a map of n radios
+-- 3, 12 and 13: the table's cells
+abbrev pub cellConditions : List ℕ → ℕ → Conditions
+cellConditions table n =
+    (3, (place : ℕ) × FirstIs table n 3 place)
+    ∷ (12, (place : ℕ) × FirstIs table n 12 place)
+    ∷ (13, (place : ℕ) × FirstIs table n 13 place)
+    ∷ []
+
+-- 1 to 4, 12 and 13: a map of n radios
 abbrev pub mapConditions : List ℕ → ℕ → Conditions
 mapConditions table n =
     sizeConditions n
     ++ (2, length table ≡ n * n → ⊥)
-    ∷ (3, (place : ℕ) × (place < n * n) × Fault table n place)
-    ∷ (4, mostLinks < links table n)
+    ∷ cellConditions table n
+    ++ (4, mostLinks < links table n)
     ∷ []
 
 -- 5 and 6: two radios of n, and the number of paths wanted
@@ -49,7 +92,7 @@ roomConditions n k steps logLength pathsLength cutLength =
     ∷ (8, (pathsLength < n - 2 + 3 * k) ⊎ (cutLength < k))
     ∷ []
 
--- 1 to 8
+-- all of them
 abbrev pub conditions : Call → Conditions
 conditions call =
     let site = call .site in

@@ -1,5 +1,5 @@
--- "Refusals by number, in this order" of document 01: 1 to 8 with their places.
-use mathlib.Core.Bool.{Bool, not, _&&_, _||_, cond}
+-- "Refusals by number, in this order" of document 01, as document 02 amends them: 1 to 8, 12 and 13 with their places.
+use mathlib.Core.Bool.{Bool, true, false, not, _&&_, _||_, cond}
 use mathlib.Core.List.{List}
 use Prim.Native.Nat.{ℕ, _+_, _-_, _*_, _/_, _%_}
 use lib.Dec.{eqb, ltb}
@@ -9,9 +9,9 @@ use Rattle.site.specs.Limits.{mostRadios, mostLinks, mostPaths}
 use Rattle.site.specs.Map.{Site, links, A}
 use Rattle.log.specs.Bytes.{messageBytes}
 use Rattle.refusals.specs.declared.Finding.{Finding}
-use Rattle.refusals.specs.declared.Finding.the-variants.{Sound, Bad}
+use Rattle.refusals.specs.declared.Finding.the-variants.{Sound, Value, Diagonal, Mirror}
 use Rattle.refusals.specs.declared.Verdict.{Verdict}
-use Rattle.refusals.specs.declared.Verdict.the-variants.{Accepted, Radios, TableLength, Cell, Links, Ends, Wanted, Log, Lists, Records, PathList}
+use Rattle.refusals.specs.declared.Verdict.the-variants.{Accepted, Radios, TableLength, CellValue, CellDiagonal, CellMirror, Links, Ends, Wanted, Log, Lists, Records, PathList}
 
 -- what a caller hands over: the map and its ends, the number of paths wanted, and the lengths of the three lent buffers
 pub record Call : Type 0 where
@@ -24,27 +24,34 @@ pub record Call : Type 0 where
 abbrev pub callOf : ℕ → List ℕ → ℕ → ℕ → ℕ → ℕ → ℕ → ℕ → Call
 callOf n table S T k log paths cut = record { site = record { n = n; table = table; S = S; T = T }; k = k; logLength = log; pathsLength = paths; cutLength = cut }
 
--- ---- 3: the table's cells
+-- ---- 3, 12 and 13: the table's cells
 
--- a cell of row i and column j is bad: it is not 0 or 1, or is on the diagonal and not 0, or differs from its mirror cell
-unfoldable pub bad : ℕ → ℕ → ℕ → ℕ → Bool
-bad i j cell mirror = ltb 1 cell || (eqb i j && not (eqb cell 0)) || not (eqb cell mirror)
+-- the cell of row i and column j, at this place, is judged by three kinds of fault in this order: it is not 0 or 1, it is on the diagonal and not 0, it differs from its mirror cell
+unfoldable pub cellFinding : ℕ → ℕ → ℕ → ℕ → ℕ → Finding
+cellFinding place i j cell mirror =
+    cond (ltb 1 cell) (Value place)
+    (cond (eqb i j && not (eqb cell 0)) (Diagonal place)
+    (cond (not (eqb cell mirror)) (Mirror place) Sound))
 
--- the same of the table's own cells
-unfoldable pub badAt : List ℕ → ℕ → ℕ → ℕ → Bool
-badAt table n i j = bad i j (getD table (i * n + j) 0) (getD table (j * n + i) 0)
+-- the cell at a place of the table; places are counted from 0 in row order
+unfoldable pub findingAt : List ℕ → ℕ → ℕ → Finding
+findingAt table n place = cellFinding place (place / n) (place % n) (getD table place 0) (getD table (place % n * n + place / n) 0)
 
--- places are counted from 0 in row order
-unfoldable pub badCell : List ℕ → ℕ → ℕ → Bool
-badCell table n place = badAt table n (place / n) (place % n)
+abbrev pub isBad : Finding → Bool
+isBad Sound = false
+isBad (Value place) = true
+isBad (Diagonal place) = true
+isBad (Mirror place) = true
 
 -- the place of the first bad cell in row order; n·n where there is none
 unfoldable pub firstBad : List ℕ → ℕ → ℕ
-firstBad table n = firstFrom (badCell table n) 0 (n * n)
+firstBad table n = firstFrom (λ place. isBad (findingAt table n place)) 0 (n * n)
 
--- what the check of the table finds
+-- what the check of the table finds: that cell's finding
 unfoldable pub finding : List ℕ → ℕ → Finding
-finding table n = cond (ltb (firstBad table n) (n * n)) (Bad (firstBad table n)) Sound
+finding table n =
+    let place = firstBad table n in
+    cond (ltb place (n * n)) (findingAt table n place) Sound
 
 -- ---- 7 and 8: how much a run may need
 
@@ -60,33 +67,27 @@ pathsNeed site k = site .n - 2 + 3 * k
 
 -- ---- numbers and places
 
--- document 01's number for each verdict; 0 is none
-abbrev pub number : Verdict → ℕ
-number Accepted = 0
-number Radios = 1
-number TableLength = 2
-number (Cell place) = 3
-number Links = 4
-number Ends = 5
-number Wanted = 6
-number Log = 7
-number Lists = 8
-number Records = 20
-number PathList = 21
+-- the documents' number for each verdict, 0 being none, and its place: only a cell has one
+abbrev pub numbered : Verdict → ℕ × ℕ
+numbered Accepted = (0, 0)
+numbered Radios = (1, 0)
+numbered TableLength = (2, 0)
+numbered (CellValue place) = (3, place)
+numbered (CellDiagonal place) = (12, place)
+numbered (CellMirror place) = (13, place)
+numbered Links = (4, 0)
+numbered Ends = (5, 0)
+numbered Wanted = (6, 0)
+numbered Log = (7, 0)
+numbered Lists = (8, 0)
+numbered Records = (20, 0)
+numbered PathList = (21, 0)
 
--- its place: only a cell has one
+abbrev pub number : Verdict → ℕ
+number v = numbered v .0
+
 abbrev pub placeOf : Verdict → ℕ
-placeOf Accepted = 0
-placeOf Radios = 0
-placeOf TableLength = 0
-placeOf (Cell place) = place
-placeOf Links = 0
-placeOf Ends = 0
-placeOf Wanted = 0
-placeOf Log = 0
-placeOf Lists = 0
-placeOf Records = 0
-placeOf PathList = 0
+placeOf v = numbered v .1
 
 -- ---- the first reason against a call
 
@@ -101,7 +102,9 @@ refuse test v = cond test v Accepted
 -- a finding on the table is passed on
 abbrev pub passed : Finding → Verdict
 passed Sound = Accepted
-passed (Bad place) = Cell place
+passed (Value place) = CellValue place
+passed (Diagonal place) = CellDiagonal place
+passed (Mirror place) = CellMirror place
 
 infixl 25 _orElse_
 -- the first of two verdicts that does not accept
@@ -122,7 +125,7 @@ noSize n = tooFew n || tooMany n
 abbrev pub sizeVerdict : ℕ → Verdict
 sizeVerdict n = refuse (noSize n) Radios
 
--- 1 to 4: a map of n radios
+-- 1 to 4, 12 and 13: a map of n radios
 unfoldable pub mapVerdict : List ℕ → ℕ → Verdict
 mapVerdict table n =
     sizeVerdict n

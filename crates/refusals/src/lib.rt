@@ -1,22 +1,27 @@
 // The words that the check of a call answers with, and their numbers. The definitions are in specs/.
 ghost use mathlib.Core.Path.{_≡_};
-ghost use Rattle.refusals.specs.Refusals.{number, placeOf, tooFew, tooMany};
+ghost use Rattle.refusals.specs.Refusals.{isBad, number, placeOf, passed, tooFew, tooMany};
 
 // A kit has at least so many radios.
 const FEWEST_RADIOS: usize = 2;
 
-// What the check of the table finds: no fault, or the place of the first bad cell in row order.
+// What the check of the table finds: no fault, or what is wrong with the first bad cell in row order, and its place. It is not
+// 0 or 1, it is on the diagonal and not 0, or it differs from its mirror cell.
 pub enum Finding {
     Sound,
-    Bad(usize),
+    Value(usize),
+    Diagonal(usize),
+    Mirror(usize),
 }
 
-// What a call is told before any token is sent: accepted, or the first reason against it, in the order of document 01.
+// What a call is told before any token is sent: accepted, or the first reason against it, in the order of the documents.
 pub enum Verdict {
     Accepted,
     Radios,
     TableLength,
-    Cell(usize),
+    CellValue(usize),
+    CellDiagonal(usize),
+    CellMirror(usize),
     Links,
     Ends,
     Wanted,
@@ -26,7 +31,7 @@ pub enum Verdict {
     PathList,
 }
 
-// Document 01's number of a verdict.
+// The documents' number of a verdict.
 pub fn number_of(verdict: Verdict) -> usize
     ensures { λ r. ⌜ r ≡ number verdict ⌝ }
 {
@@ -34,7 +39,9 @@ pub fn number_of(verdict: Verdict) -> usize
         Verdict::Accepted => 0,
         Verdict::Radios => 1,
         Verdict::TableLength => 2,
-        Verdict::Cell(_) => 3,
+        Verdict::CellValue(_) => 3,
+        Verdict::CellDiagonal(_) => 12,
+        Verdict::CellMirror(_) => 13,
         Verdict::Links => 4,
         Verdict::Ends => 5,
         Verdict::Wanted => 6,
@@ -53,7 +60,9 @@ pub fn place_of(verdict: Verdict) -> usize
         Verdict::Accepted => 0,
         Verdict::Radios => 0,
         Verdict::TableLength => 0,
-        Verdict::Cell(place) => place,
+        Verdict::CellValue(place) => place,
+        Verdict::CellDiagonal(place) => place,
+        Verdict::CellMirror(place) => place,
         Verdict::Links => 0,
         Verdict::Ends => 0,
         Verdict::Wanted => 0,
@@ -61,6 +70,30 @@ pub fn place_of(verdict: Verdict) -> usize
         Verdict::Lists => 0,
         Verdict::Records => 0,
         Verdict::PathList => 0,
+    }
+}
+
+// Is a fault found?
+pub fn is_bad(finding: Finding) -> bool
+    ensures { λ r. ⌜ r ≡ isBad finding ⌝ }
+{
+    match finding {
+        Finding::Sound => false,
+        Finding::Value(_) => true,
+        Finding::Diagonal(_) => true,
+        Finding::Mirror(_) => true,
+    }
+}
+
+// A finding on the table is passed on.
+pub fn passed_on(finding: Finding) -> Verdict
+    ensures { λ r. ⌜ r ≡ passed finding ⌝ }
+{
+    match finding {
+        Finding::Sound => Verdict::Accepted,
+        Finding::Value(place) => Verdict::CellValue(place),
+        Finding::Diagonal(place) => Verdict::CellDiagonal(place),
+        Finding::Mirror(place) => Verdict::CellMirror(place),
     }
 }
 

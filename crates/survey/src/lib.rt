@@ -25,12 +25,15 @@ fn refused(verdict: Verdict, log: &mut [u8], paths: &mut [u8], cut: &mut [u8]) -
     ensures { λ r. ⌜ now (paths .exit) ≡ replicate (length (now (paths .entry))) 0 ⌝ }
     ensures { λ r. ⌜ now (cut .exit) ≡ replicate (length (now (cut .entry))) 0 ⌝ }
 {
+    // Taken first, so that the verdict need not be kept while the buffers are cleared.
+    let refusal = refusals::number_of(verdict);
+    let place = refusals::place_of(verdict);
     buffers::clear_from(log, 0);
     buffers::clear_from(paths, 0);
     buffers::clear_from(cut, 0);
     Outcome {
-        refusal: refusals::number_of(verdict),
-        place: refusals::place_of(verdict),
+        refusal,
+        place,
         paths: 0,
         rounds: 0,
         messages: 0,

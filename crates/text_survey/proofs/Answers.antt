@@ -14,8 +14,9 @@ use Rattle.buffers.specs.Zeros.{zerosAfter}
 use Rattle.site.specs.Limits.{mostRadios}
 use Rattle.site.specs.Paths.{Meets}
 use Rattle.refusals.specs.Refusals.{Call, callOf, number, verdict}
+use Rattle.refusals.specs.Conditions.{ofCell}
 use Rattle.refusals.specs.declared.Verdict.{Verdict}
-use Rattle.refusals.specs.declared.Verdict.the-variants.{Accepted, Radios, TableLength, Cell, Links, Ends, Wanted, Log, Lists, Records, PathList}
+use Rattle.refusals.specs.declared.Verdict.the-variants.{Accepted, Radios, TableLength, CellValue, CellDiagonal, CellMirror, Links, Ends, Wanted, Log, Lists, Records, PathList}
 use Rattle.refusals.proofs.Accepted.{accepted-room}
 use Rattle.outcome.specs.declared.Outcome.{Outcome}
 use Rattle.outcome.specs.Leaves.{pathsFound, cutFound, pathsLeft, cutLeft, outcome}
@@ -77,7 +78,9 @@ number-small : (v : Verdict) → number v ≤ mostNumber
 number-small Accepted = omega arith
 number-small Radios = omega arith
 number-small TableLength = omega arith
-number-small (Cell place) = omega arith
+number-small (CellValue place) = omega arith
+number-small (CellDiagonal place) = omega arith
+number-small (CellMirror place) = omega arith
 number-small Links = omega arith
 number-small Ends = omega arith
 number-small Wanted = omega arith
@@ -115,11 +118,11 @@ module _ {first : FirstLine} {table : List ℕ} {found : Outcome} {log paths cut
   refusal-small = omega (arith, refusal-is, number-small (verdict call))
 
   place-small : outcome call .place ≤ mostNumber
-  place-small = go (ℕ-discrete (outcome call .refusal) 3)
+  place-small = go (ofCell (outcome call .refusal)) refl
     where
-      go : Dec (outcome call .refusal ≡ 3) → outcome call .place ≤ mostNumber
-      go (yes e) = omega (arith, promise .demand-1 .place-of-3 e .within, few-cells (first .n) few)
-      go (no e) = omega (arith, promise .demand-1 .no-place e)
+      go : (b : Bool) → ofCell (outcome call .refusal) ≡ b → outcome call .place ≤ mostNumber
+      go true e = omega (arith, promise .demand-1 .place-of-cell e .first .within, few-cells (first .n) few)
+      go false e = omega (arith, promise .demand-1 .no-place e)
 
   bounded : Bounded (surveyFor first table)
   unfolding surveyFor

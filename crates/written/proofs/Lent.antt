@@ -19,7 +19,7 @@ use Rattle.basics.proofs.Numbered.{gives-parts}
 use Rattle.site.specs.Limits.{mostRadios}
 use Rattle.site.specs.Map.{Site, degree, links, linkedOn, A}
 use Rattle.refusals.specs.Refusals.{Call, callOf, verdict, number}
-use Rattle.refusals.specs.Conditions.{Fault, no-bit, diagonal, mirror, mapConditions, pairConditions, roomConditions, conditions}
+use Rattle.refusals.specs.Conditions.{Fault, no-bit, diagonal, mirror, FirstIs, mapConditions, pairConditions, roomConditions, conditions}
 use Rattle.site.proofs.Formula.{Even, steps-and-degrees}
 use Rattle.refusals.proofs.Exactly.{call-exact}
 use Rattle.refusals.proofs.Accepted.{SoundMap, sound-map, GoodPair, good-pair}
@@ -31,7 +31,7 @@ use Rattle.text_survey.specs.Survey.{logLent, pathsLent, cutLent}
 use Rattle.basics.proofs.Places.{row-of, column-of, in-table, row-below, column-below}
 use Rattle.written.proofs.Tables.{isCell, inCells, table-of-long, table-of-cell}
 
--- ---- 3: the table of good links has no bad cell
+-- ---- 3, 12 and 13: the table of good links has no bad cell
 
 -- the radios of a line that is not at fault
 abbrev Ordered : ℕ → Line → Type 0
@@ -122,10 +122,10 @@ no-fault n lines ord some place p = go (inCells n place lines) refl
     cell b is = table-of-cell n lines place p ∙ ap (λ (x : Bool). cond x 1 0) is
 
     go : (b : Bool) → inCells n place lines ≡ b → Fault (tableOf n lines) n place → ⊥
-    go true is (no-bit zero one) = one (cell true is)
-    go false is (no-bit zero one) = zero (cell false is)
-    go true is (diagonal on nonzero) = of-links n place lines ord is .off-diagonal on
-    go false is (diagonal on nonzero) = nonzero (cell false is)
+    go true is (no-bit (zero, one)) = one (cell true is)
+    go false is (no-bit (zero, one)) = zero (cell false is)
+    go true is (diagonal (on, nonzero)) = of-links n place lines ord is .off-diagonal on
+    go false is (diagonal (on, nonzero)) = nonzero (cell false is)
     go b is (mirror differ) = differ (cell b is ∙ sym (table-of-cell n lines (other n place) mirror-in ∙ ap (λ (x : Bool). cond x 1 0) (sym same ∙ is)))
 
 -- ---- 7: the longest log
@@ -165,14 +165,20 @@ module _ (n S T k : ℕ) (lines : List Line) (two : 2 ≤ n) (most : n ≤ mostR
   given : (c : ℕ) → (c ≡ 0 → ⊥) → number (verdict call) ≡ c → Gives (conditions call) c
   given c some e = call-exact call .law .given c some .0 e
 
+  -- no cell is the first at fault
+  no-first : {c : ℕ} → (place : ℕ) × FirstIs (tableOf n lines) n c place → ⊥
+  no-first w = sound (w .0) (w .1 .first .within) (w .1 .first .fault)
+
   -- no condition on the map holds but that it has too many links
   not-by-map : (c : ℕ) → Gives on-map c → c ≡ 4
   not-by-map c (inl (e, inl p)) = absurd (omega arith)
   not-by-map c (inl (e, inr p)) = absurd (omega arith)
   not-by-map c (inr (p₁, inl (e, p))) = absurd (p (table-of-long n lines))
-  not-by-map c (inr (p₁, inr (p₂, inl (e, p)))) = absurd (sound (p .0) (p .1) (p .2))
-  not-by-map c (inr (p₁, inr (p₂, inr (p₃, inl (e, p))))) = e
-  not-by-map c (inr (p₁, inr (p₂, inr (p₃, inr (p₄, g))))) = absurd g
+  not-by-map c (inr (p₁, inr (p₂, inl (e, p)))) = absurd (no-first p)
+  not-by-map c (inr (p₁, inr (p₂, inr (p₃, inl (e, p))))) = absurd (no-first p)
+  not-by-map c (inr (p₁, inr (p₂, inr (p₃, inr (p₁₂, inl (e, p)))))) = absurd (no-first p)
+  not-by-map c (inr (p₁, inr (p₂, inr (p₃, inr (p₁₂, inr (p₁₃, inl (e, p))))))) = e
+  not-by-map c (inr (p₁, inr (p₂, inr (p₃, inr (p₁₂, inr (p₁₃, inr (p₄, g))))))) = absurd g
 
   -- 17 · 574 messages of four bytes are the 39,032 lent
   not-by-room : (c : ℕ) → NoneHolds on-map → NoneHolds on-pair → Gives on-room c → ⊥

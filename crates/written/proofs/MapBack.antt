@@ -109,7 +109,7 @@ module _ (n : ℕ) (table : List ℕ) (map : WritableMap n table) where
     where
       go : Dec (getD table place 0 ≡ 0) → getD table place 0 ≡ 0
       go (yes e) = e
-      go (no c) = absurd (no-fault place p (no-bit c d))
+      go (no c) = absurd (no-fault place p (no-bit (c, d)))
 
   mirrored : (place : ℕ) → place < n * n → getD table place 0 ≡ getD table (place % n * n + place / n) 0
   mirrored place p = go (ℕ-discrete _ _)
@@ -175,7 +175,7 @@ module _ (n : ℕ) (table : List ℕ) (map : WritableMap n table) where
       pick (yes l) d =
           cells-of cell cell p l one
           (or-right (eqb cell (cell % n * n + cell / n)) (eqb cell (cell / n * n + cell % n)) (eq-eqb cell (cell / n * n + cell % n) (sym (div-add-mod' cell n))))
-      pick (no c) (no d) = absurd (no-fault cell p (diagonal (omega arith) (λ e. omega arith)))
+      pick (no c) (no d) = absurd (no-fault cell p (diagonal (omega arith, λ e. omega arith)))
       pick (no c) (yes l) =
           cells-of other cell (in-table n (cell % n) (cell / n) (column-below n cell some) row) (rw (other-row, other-column) l) (sym (mirrored cell p) ∙ one)
           (or-left (eqb cell (other % n * n + other / n)) (eqb cell (other / n * n + other % n)) (eq-eqb cell (other % n * n + other / n) (sym back)))

@@ -1,13 +1,14 @@
 -- `checks::judge_map` meets its contract. Assumes nothing.
-use mathlib.Core.Path.{sym, _∙_}
+use mathlib.Core.Path.{sym, ap, _∙_}
 use mathlib.Core.Logic.{⊎-elim}
 use Prim.Native.Nat.{_≤_}
 use native.Mathlib.Omega.{arith}
 use native.Mathlib.Nat.{mul-le-mul}
 use Rattle.basics.proofs.Bools.{or-left, or-right, or-neither}
 use Rattle.site.specs.Limits.{mostRadios}
-use Rattle.refusals.specs.Refusals.{tooFew}
+use Rattle.refusals.specs.Refusals.{isBad, passed, tooFew}
 use Rattle.refusals.proofs.Accepted.{size-fits}
+use Rattle.refusals.proofs.Exactly.{finds-nothing}
 use Rattle.checks.proofs.Verdicts.{Mapped, told-radios, told-length, told-cell, told-links, told-sound}
 use Rattle.checks.proofs.judge_map.Statement.{statement}
 use Rattle.checks.proofs.judge_map.Tie as tie
@@ -23,7 +24,7 @@ size c = size-fits _ (or-neither _ _ (sym (past tie.After-too-few (search) .too-
 mapped : (c : tie.After-total-of-rows) → Mapped (past tie.Start (search) .args .table .now) (past tie.Start (search) .args .n) (past tie.After-check-table (search) .check-table .last .1 .1 .0) (c .total-of-rows .result)
 mapped c =
     let checked = past tie.After-check-table (search) .check-table .ensures in
-    let sound = past tie.After-enum-told (search) .enum-told .given .1 in
+    let sound = finds-nothing (past tie.After-check-table (search) .check-table .result) (sym (past tie.After-is-bad (search) .is-bad .ensures) ∙ past tie.Else4 (search) .if4 .left) in
     record { two = size (search) .0; most = size (search) .1; long = search; sound = sym (checked .told) ∙ sound; rows-are = checked .rows-are sound; added = c .total-of-rows .ensures }
 
 returns : tie.Need-returns
@@ -40,11 +41,11 @@ returns-2 c = told-length (size (search) .0) (size (search) .1) (c .if3 .taken)
 
 returns-3 : tie.Need-returns-3
 returns-3 c =
-    let found = sym (past tie.After-check-table (search) .check-table .ensures .told) ∙ past tie.After-cell (search) .cell .given .1 in
-    told-cell (size (search) .0) (size (search) .1) (search) _ found
+    let told = past tie.After-check-table (search) .check-table .ensures .told in
+    told-cell (size (search) .0) (size (search) .1) (search) (c .passed-on .ensures ∙ ap passed told) (sym (ap isBad told) ∙ sym (past tie.After-is-bad (search) .is-bad .ensures) ∙ past tie.Then4 (search) .if4 .taken)
 
 returns-4 : tie.Need-returns-4
-returns-4 c = told-links (mapped (search)) (c .if4 .taken)
+returns-4 c = told-links (mapped (search)) (c .if5 .taken)
 
 returns-5 : tie.Need-returns-5
 returns-5 c = told-sound (mapped (search)) (search)
@@ -59,9 +60,9 @@ judge-map-spec =
     mul-if3
     returns-2
     (λ c κs. (size (search) .1, search))
-    (λ c. omega arith)
+    (λ c κs. tt)
+    (λ c κs. tt)
     returns-3
-    (λ c. omega arith)
     (λ c κs. size (search) .1)
     returns-4
     returns-5)

@@ -12,7 +12,7 @@ past P p = p
 returns : tie.Need-returns
 returns c =
     let at = past tie.Start (search) .args in (
-      ap₂ (λ (n p : ℕ). record { refusal = n; place = p; paths = 0; rounds = 0; messages = 0 }) (past tie.After-number-of (search) .number-of .ensures) (c .place-of .ensures),
+      ap₂ (λ (n p : ℕ). record { refusal = n; place = p; paths = 0; rounds = 0; messages = 0 }) (past tie.After-number-of (search) .number-of .ensures) (past tie.After-place-of (search) .place-of .ensures),
       (
         past tie.After-clear-from (search) .clear-from .ensures ∙ all-zeros (at .log .now),
         (past tie.After-clear-from2 (search) .clear-from2 .ensures ∙ all-zeros (at .paths .now), past tie.After-clear-from3 (search) .clear-from3 .ensures ∙ all-zeros (at .cut .now)),
