@@ -70,6 +70,7 @@ module _ {Answer : Type 0} (number : Answer → ℕ) where
       theirs c apart (inl g) = absurd (not-so (g .1))
       theirs c apart (inr g) = others .given c apart .1 (g .1)
 
+  -- one condition by itself
   pub law-one : (v none : Answer) (b : Bool) {P : Type 0} → (number v ≡ 0 → ⊥) → number none ≡ 0 → Tells b P → Lawful number ((number v, P) ∷ []) (cond b v none)
   law-one v none b some zero tells = law-first v b some tells (law-none none zero)
 

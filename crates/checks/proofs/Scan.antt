@@ -13,7 +13,7 @@ use Rattle.basics.proofs.Bools.{not-true→false}
 use Rattle.basics.proofs.Counting.{first-is}
 use Rattle.radios.specs.Bytes.{Bits}
 use Rattle.refusals.specs.Conditions.{no-bit}
-use Rattle.refusals.specs.Refusals.{cellFinding, findingAt, isBad, firstBad, finding}
+use Rattle.refusals.specs.Refusals.{cellFinding, isBad, badCell, firstBad, finding}
 use Rattle.refusals.proofs.Exactly.{bad-cell, sound-table}
 use Rattle.site.proofs.Formula.{Even}
 use Rattle.refusals.proofs.Accepted.{even-links}
@@ -56,14 +56,14 @@ some-row (suc n) place l = omega arith
 -- so every place before the turn is good
 sound-places : (table : List ℕ) (n here end : ℕ) → end ≤ n * n → Scanned table n here
     → ((a b : ℕ) → a < n → b < n → a * n + b < end → mostRadios * a + b < here)
-    → (place : ℕ) → place < end → isBad (findingAt table n place) ≡ false
+    → (place : ℕ) → place < end → badCell table n place ≡ false
 sound-places table n here end most s order place l =
     let pos : 0 < n = some-row n place (omega arith) in
     let a : ℕ = place / n in
     let b : ℕ = place % n in
     let in-row : a < n = div-lt-iff-lt-mul pos .1 (omega arith) in
     let in-column : b < n = mod-lt place pos in
-    ap (λ (x : ℕ). isBad (findingAt table n x)) (sym (div-add-mod' place n)) ∙ ap isBad (at-place table n a b in-column)
+    ap (badCell table n) (sym (div-add-mod' place n)) ∙ ap isBad (at-place table n a b in-column)
     ∙ sound-below table n here s a b in-row in-column (order a b in-row in-column (omega (arith, div-add-mod' place n)))
 
 -- the finding at a cell, read off the table at its place and at its mirror cell's
@@ -75,8 +75,8 @@ pub found-bad : (table : List ℕ) (n i j : ℕ) → n ≤ mostRadios → i ≤ 
     → badIn table n i j ≡ true → finding table n ≡ findingIn table n i j
 unfolding finding firstBad
 found-bad table n i j small from within inside s e =
-    let first : firstFrom (λ place. isBad (findingAt table n place)) 0 (n * n) ≡ i * n + j =
-    first-is (λ place. isBad (findingAt table n place)) 0 (n * n) (i * n + j) zero-le
+    let first : firstFrom (badCell table n) 0 (n * n) ≡ i * n + j =
+    first-is (badCell table n) 0 (n * n) (i * n + j) zero-le
     (record {
       from = zero-le;
       within = omega arith;
@@ -91,8 +91,8 @@ found-bad table n i j small from within inside s e =
 pub found-none : (table : List ℕ) (n : ℕ) → Scanned table n (mostRadios * n + n) → finding table n ≡ Sound
 unfolding finding firstBad
 found-none table n s =
-    let first : firstFrom (λ place. isBad (findingAt table n place)) 0 (n * n) ≡ n * n =
-    first-is (λ place. isBad (findingAt table n place)) 0 (n * n) (n * n) zero-le
+    let first : firstFrom (badCell table n) 0 (n * n) ≡ n * n =
+    first-is (badCell table n) 0 (n * n) (n * n) zero-le
     (record {
       from = zero-le;
       within = omega arith;

@@ -17,7 +17,7 @@ use Rattle.basics.proofs.Counting.{first-from}
 use Rattle.basics.proofs.Numbered.{law-none, law-first, law-one, law-after, law-each}
 use Rattle.site.specs.Limits.{mostRadios, mostPaths}
 use Rattle.site.specs.Map.{A}
-use Rattle.refusals.specs.Refusals.{Call, cellFinding, findingAt, isBad, firstBad, finding, refuse, passed, _orElse_, noSize, sizeVerdict, mapVerdict, pairVerdict, roomVerdict, verdict, number, placeOf}
+use Rattle.refusals.specs.Refusals.{Call, cellFinding, findingAt, isBad, badCell, firstBad, finding, refuse, passed, _orElse_, noSize, sizeVerdict, mapVerdict, pairVerdict, roomVerdict, verdict, number, placeOf}
 use Rattle.refusals.specs.Conditions.{OnDiagonal, Unlike, kinds, ofCell, Fault, no-bit, diagonal, mirror, FirstFault, FirstIs, sizeConditions, cellConditions, mapConditions, pairConditions, roomConditions, conditions}
 use Rattle.refusals.specs.declared.Finding.{Finding}
 use Rattle.refusals.specs.declared.Finding.the-variants.{Sound, Value, Diagonal, Mirror}
@@ -42,6 +42,7 @@ bad-number (Value place) e z = omega arith
 bad-number (Diagonal place) e z = omega arith
 bad-number (Mirror place) e z = omega arith
 
+-- and only a bad one has
 bad-told : (found : Finding) → (numberOf found ≡ 0 → ⊥) → isBad found ≡ true
 bad-told found some = go (isBad found) refl
   where
@@ -60,7 +61,7 @@ module _ (table : List ℕ) (n : ℕ) where
       (law-none numberOf Sound refl)))
 
   -- and its place
-  fault-place : (place : ℕ) → isBad (findingAt table n place) ≡ true → placeOf (passed (findingAt table n place)) ≡ place
+  fault-place : (place : ℕ) → badCell table n place ≡ true → placeOf (passed (findingAt table n place)) ≡ place
   unfolding cellFinding findingAt
   fault-place place = go (ltb 1 cell) (eqb (place / n) (place % n) && not (eqb cell 0)) (not (eqb cell (getD table (place % n * n + place / n) 0)))
     where
@@ -76,7 +77,7 @@ module _ (table : List ℕ) (n : ℕ) where
       go false false false e = absurd (false≢true e)
 
   -- a cell is bad exactly if it has a fault
-  pub bad-cell : (place : ℕ) → Tells (isBad (findingAt table n place)) (Fault table n place)
+  pub bad-cell : (place : ℕ) → Tells (badCell table n place) (Fault table n place)
   bad-cell place = (λ e. of-kind (law .given _ (bad-number (findingAt table n place) e) .0 refl), λ fault. bad-told (findingAt table n place) (λ zero. no-kind fault (law .none .0 zero)))
     where
       law : Lawful numberOf (kinds table n place) (findingAt table n place)
@@ -103,9 +104,9 @@ own-mirror table n place (on, some) unlike =
 
 module _ (table : List ℕ) (n : ℕ) where
   -- what "first" says of the first bad cell
-  first-bad : First (λ place. isBad (findingAt table n place)) 0 (n * n) (firstBad table n)
+  first-bad : First (badCell table n) 0 (n * n) (firstBad table n)
   unfolding firstBad
-  first-bad = first-from (λ place. isBad (findingAt table n place)) 0 (n * n) (omega arith)
+  first-bad = first-from (badCell table n) 0 (n * n) (omega arith)
 
   first-fault : firstBad table n < n * n → FirstFault table n (firstBad table n)
   first-fault p =
@@ -139,7 +140,7 @@ module _ (table : List ℕ) (n : ℕ) where
     where
       go : Dec (firstBad table n < n * n) → FirstIs table n (numberOf (finding table n)) (placeOf (passed (finding table n)))
       go (yes p) =
-          let there : isBad (findingAt table n (firstBad table n)) ≡ true = first-bad .found p in
+          let there : badCell table n (firstBad table n) ≡ true = first-bad .found p in
           rw (found-there p, fault-place table n (firstBad table n) there)
           (record { first = first-fault p; kind = kind-law table n (firstBad table n) .given _ (bad-number (findingAt table n (firstBad table n)) there) .0 refl })
       go (no p) = absurd (false≢true (sym (ap isBad (found-nowhere (omega arith))) ∙ bad))
@@ -192,7 +193,7 @@ module _ {table : List ℕ} {n : ℕ} where
 
 module _ (table : List ℕ) (n : ℕ) where
   abbrev Exactly : ℕ → Type 0
-  Exactly c = (number (passed (finding table n)) ≡ c) ↔ ((place : ℕ) × FirstIs table n c place)
+  Exactly c = (numberOf (finding table n) ≡ c) ↔ ((place : ℕ) × FirstIs table n c place)
 
   exactly-3 : Exactly 3
   exactly-3 = kind-exactly table n 3 (λ e. omega arith)
@@ -204,7 +205,7 @@ module _ (table : List ℕ) (n : ℕ) where
   exactly-13 = kind-exactly table n 13 (λ e. omega arith)
 
   -- no other number is told of a table
-  no-other : NoneHolds (cellConditions table n) → (found : Finding) → numberOf (finding table n) ≡ numberOf found → number (passed (finding table n)) ≡ 0
+  no-other : NoneHolds (cellConditions table n) → (found : Finding) → numberOf (finding table n) ≡ numberOf found → numberOf (finding table n) ≡ 0
   no-other none Sound e = e
   no-other none (Value place) e = absurd (none .0 (exactly-3 .0 e))
   no-other none (Diagonal place) e = absurd (none .1 .0 (exactly-12 .0 e))

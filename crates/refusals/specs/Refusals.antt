@@ -43,9 +43,12 @@ isBad (Value place) = true
 isBad (Diagonal place) = true
 isBad (Mirror place) = true
 
+abbrev pub badCell : List ℕ → ℕ → ℕ → Bool
+badCell table n place = isBad (findingAt table n place)
+
 -- the place of the first bad cell in row order; n·n where there is none
 unfoldable pub firstBad : List ℕ → ℕ → ℕ
-firstBad table n = firstFrom (λ place. isBad (findingAt table n place)) 0 (n * n)
+firstBad table n = firstFrom (badCell table n) 0 (n * n)
 
 -- what the check of the table finds: that cell's finding
 unfoldable pub finding : List ℕ → ℕ → Finding

@@ -1,4 +1,4 @@
--- The program lends enough: of the refusals 1 to 8 a call that it makes meets only 4, 5 and 6. Assumes nothing.
+-- The program lends enough, and makes its table itself: of the refusals of a call those that it makes meet only 4, 5 and 6. Assumes nothing.
 use mathlib.Core.Path.{_≡_, refl, sym, ap, _∙_}
 use mathlib.Core.Bool.{Bool, true, false, not, _||_, cond}
 use mathlib.Core.List.{List, [], _∷_, _++_}
