@@ -1,6 +1,6 @@
 -- The rows at the start, row by row. Assumes nothing.
 use mathlib.Core.Path.{_≡_, refl, sym, ap, _∙_}
-use mathlib.Core.Bool.{true, false, _&&_, and-false}
+use mathlib.Core.Bool.{false, _&&_, and-false}
 use mathlib.Core.List.{List}
 use Prim.Native.Nat.{ℕ, _+_, _*_, _<_}
 use native.Mathlib.Decide.{ℕ-discrete, decLt}
@@ -22,10 +22,6 @@ use Rattle.openings.proofs.Walks.{from-in, from-out, pair, walk-joined,
 -- ---- one row
 
 module _ (site : Site) (u : ℕ) where
-  pub may-pass : u < site .n → (u ≡ site .S → ⊥) → (u ≡ site .T → ⊥) → passes site u ≡ true
-  unfolding passes
-  may-pass p ns nt = rw (lt-ltb u (site .n) p, ne-eqb u (site .S) ns, ne-eqb u (site .T) nt) refl
-
   pub not-S : u ≡ site .S → passes site u ≡ false
   unfolding passes
   not-S e = rw (eq-eqb u (site .S) e, and-false) refl

@@ -13,10 +13,10 @@ use borrow.Author.Tests.{eq-eqb, ne-eqb, eqb-true}
 use Rattle.basics.proofs.Bools.{clash, or-cases, and-left, and-right, or-left, or-right, not-true→false, both-ways}
 use Rattle.radios.specs.Member.{member}
 use Rattle.site.specs.Map.{Site, step, radioOf}
-use Rattle.site.proofs.Steps.{step-of}
+use Rattle.site.proofs.Steps.{one-way, step-of}
 use Rattle.tokens.specs.Rules.{Marks, mayWalk, reversed}
 use Rattle.openings.specs.Rows.{across, Open, Joined, OnSteps, marksOf}
-use Rattle.openings.proofs.Walks.{one-way, pair, across-is, across-radio, walk-step}
+use Rattle.openings.proofs.Walks.{pair, across-is, across-radio, walk-step}
 
 -- radio v joins row h or leaves it, and nothing else changes
 abbrev pub Toggled : ℕ → ℕ → List ℕ → List ℕ → Type 0

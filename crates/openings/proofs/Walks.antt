@@ -9,7 +9,7 @@ use lib.Dec.{eqb}
 use borrow.Author.Tests.{eq-eqb, ne-eqb}
 use Rattle.basics.proofs.Bools.{or-cases, and-left, not-true→false}
 use Rattle.site.specs.Map.{Site, linkedOn, inHalf, outHalf, step}
-use Rattle.site.proofs.Steps.{in-is-not-out, out-is-out, radio-of-in, radio-of-out, step-over, step-link, none-into-S, Step, inside, over, step-of, linked-says}
+use Rattle.site.proofs.Steps.{in-is-not-out, out-is-out, radio-of-in, radio-of-out, step-over, step-link, none-into-S, Step, step-of, linked-says, step-below, step-sides, one-way}
 use Rattle.tokens.specs.Rules.{Marks, mayWalk, unmarked}
 use Rattle.openings.specs.Rows.{across, Joined}
 
@@ -35,13 +35,6 @@ side h = go (ℕ-discrete (h % 2) 1)
 
 -- ---- steps
 
--- a step has no step back
-pub one-way : (site : Site) (p q : ℕ) → Step site p q → Step site q p → ⊥
-one-way site p q (inside v a b l ns nt) (inside w c d l′ ns′ nt′) = omega arith
-one-way site p q (inside v a b l ns nt) (over w x c d e nt′ ns′) = linked-says site w x e .differ (omega arith)
-one-way site p q (over u v a b e nt ns) (inside w c d l′ ns′ nt′) = linked-says site u v e .differ (omega arith)
-one-way site p q (over u v a b e nt ns) (over w x c d f nt′ ns′) = omega arith
-
 pub joined-step : (site : Site) (a b : ℕ) → Joined site a b → Step site a b ⊎ Step site b a
 joined-step site a b (inl e) = inl (step-of site a b e)
 joined-step site a b (inr e) = inr (step-of site b a e)
@@ -56,10 +49,8 @@ pub pair : (site : Site) (h y : ℕ) → Joined site h y → Pair site h y
 pair site h y j = go (joined-step site h y j)
   where
     go : Step site h y ⊎ Step site y h → Pair site h y
-    go (inl (inside v a b l ns nt)) = record { first = omega arith; second = omega arith; differ = omega arith }
-    go (inr (inside v a b l ns nt)) = record { first = omega arith; second = omega arith; differ = omega arith }
-    go (inl (over u v a b e nt ns)) = let w = linked-says site u v e in record { first = omega (arith, w .from-below); second = omega (arith, w .to-below); differ = omega arith }
-    go (inr (over u v a b e nt ns)) = let w = linked-says site u v e in record { first = omega (arith, w .to-below); second = omega (arith, w .from-below); differ = omega arith }
+    go (inl step) = let w = step-below site h y step in record { first = w .0; second = w .1; differ = step-sides site h y step }
+    go (inr step) = let w = step-below site y h step in record { first = w .1; second = w .0; differ = omega (arith, step-sides site y h step) }
 
 pub across-is : (h y : ℕ) → (h + y) % 2 ≡ 1 → across h (y / 2) ≡ y
 across-is h y e = go (side h)

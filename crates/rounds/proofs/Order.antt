@@ -9,7 +9,7 @@ use lib.Dec.{eqb}
 use borrow.Author.Tests.{eqb-true, eqb-false, ne-eqb, lt-ltb, le-ltb, not-true}
 use Rattle.basics.proofs.Bools.{and-left, and-right}
 use Rattle.site.specs.Map.{Site, inHalf, outHalf, radioOf, isOut, step}
-use Rattle.site.proofs.Steps.{in-is-not-out, out-is-out, Step, inside, over, step-of, linked-says}
+use Rattle.site.proofs.Steps.{in-is-not-out, out-is-out, Step, inside, over, step-of, linked-says, passes-says}
 use Rattle.tokens.specs.Rules.{Marks, Plan, mayWalk, candidate, canTry}
 use Rattle.menger.proofs.Network.{walkable}
 use Rattle.menger.proofs.Walks.{walk-cases}
@@ -69,8 +69,8 @@ module _ (site : Site) where
   out-half v h e = rw e (out-is-out v)
 
   step-numbered : (marks : Marks) (h y : ℕ) → walkable (networkOf site) marks h y ≡ true → Step site h y ⊎ Step site y h → OpenNumber site marks h y
-  step-numbered marks h y w (inl (inside v a b p ns nt)) = numbered marks h y (site .n) w (omega arith) (λ c. omega arith) (own-half h (site .n) false (in-half v h a) (omega arith) ∙ omega arith)
-  step-numbered marks h y w (inr (inside v a b p ns nt)) = numbered marks h y (site .n) w (omega arith) (λ c. omega arith) (own-half h (site .n) true (out-half v h b) (omega arith) ∙ omega arith)
+  step-numbered marks h y w (inl (inside v a b p)) = numbered marks h y (site .n) w (omega arith) (λ c. omega (arith, passes-says site v p .below)) (own-half h (site .n) false (in-half v h a) (omega arith) ∙ omega arith)
+  step-numbered marks h y w (inr (inside v a b p)) = numbered marks h y (site .n) w (omega arith) (λ c. omega (arith, passes-says site v p .below)) (own-half h (site .n) true (out-half v h b) (omega arith) ∙ omega arith)
   step-numbered marks h y w (inl (over u v a b e nt ns)) =
       let link = linked-says site u v e in
       numbered marks h y v w (omega arith) (λ c. link .differ (omega arith)) (other-radio h v true (out-half u h a) (link .to-below) ∙ sym b)

@@ -12,7 +12,7 @@ use Rattle.basics.proofs.Bools.{clash, not-true→false}
 use Rattle.basics.proofs.Lists.{_⊆_, among-nil, among-here, among-there, among-cases, among-map}
 use Rattle.site.specs.Map.{Site, inHalf, outHalf, radioOf, isOut, step}
 use Rattle.site.specs.Paths.{LeadsToT, Path, Disjoint, CutItem, Meets, Cut}
-use Rattle.site.proofs.Steps.{Step, inside, over, step-of, inside-step, over-step, linked-says, in-is-not-out, out-is-out, radio-of-in, radio-of-out}
+use Rattle.site.proofs.Steps.{Step, inside, over, step-of, inside-step, over-step, linked-says, may-pass, in-is-not-out, out-is-out, radio-of-in, radio-of-out}
 use Rattle.site.proofs.Valid.{Valid}
 use Rattle.tokens.specs.Run.{atLink, cutItem, itemOf, cutOf}
 use Rattle.menger.proofs.Network.{Marks, Shut}
@@ -86,7 +86,7 @@ module _ {site : Site} (valid : Valid site) {m : Marks} {R : ℕ → Bool} (shut
           record { from = outHalf u; to = inHalf v; over = over-step site u v (w .0) not-T v-not-S; in-R = i; not-in-R = e; named = sym (item-over site u v); sound = item .0; meets = item .1 }
       go true e false f ih =
           let v-not-T : v ≡ site .T → ⊥ = λ q. clash (rw q at e) (shut .goal-out) in
-          record { from = inHalf v; to = outHalf v; over = inside-step site v v-below v-not-S v-not-T; in-R = e; not-in-R = f; named = sym (item-inside site v); sound = inl (v-below, v-not-S, v-not-T); meets = inl (v-below, v-on) }
+          record { from = inHalf v; to = outHalf v; over = inside-step site v (may-pass site v (record { below = v-below; not-S = v-not-S; not-T = v-not-T })); in-R = e; not-in-R = f; named = sym (item-inside site v); sound = inl (v-below, v-not-S, v-not-T); meets = inl (v-below, v-on) }
       go true e true f ih = ih f (λ (q : v ≡ site .T). clash (rw q at e) (shut .goal-out))
 
   -- a path of the map leaves R at its item
@@ -175,7 +175,7 @@ module _ {site : Site} (valid : Valid site) {p : ℕ} {m : Marks} (flow : Flow (
   not-yet h (g ∷ trail) after back i = go (step-of site g h (flow .on-steps g h (back .0))) (λ after′. not-yet g trail after′ (back .1) (none-enters flow shut g h (back .0) i))
     where
       go : Step site g h → ((after′ : List ℕ) → cutItem site R (site .S) (radiosOf (g ∷ trail) after′) ≡ itemFrom site R g after′) → cutItem site R (site .S) (radiosOf (h ∷ g ∷ trail) after) ≡ itemFrom site R h after
-      go (inside v x y q ns nt) ih = rw (y, radios-out v (g ∷ trail) after) (ih after ∙ rw x (goes-inside site R v after (rw y at i)))
+      go (inside v x y q) ih = rw (y, radios-out v (g ∷ trail) after) (ih after ∙ rw x (goes-inside site R v after (rw y at i)))
       go (over u v x y l nt ns) ih = rw (y, radios-in v (g ∷ trail) after) (ih (v ∷ after) ∙ rw x (goes-over site R u v after (rw y at i)))
 
   -- the item of a trail is that of the step over which it leaves R
@@ -186,7 +186,7 @@ module _ {site : Site} (valid : Valid site) {p : ℕ} {m : Marks} (flow : Flow (
   trail-item y x (h ∷ (g ∷ trail)) after back b i o = go b (λ after′ b′. trail-item y x (g ∷ trail) after′ (back .1) b′ i o)
     where
       here : Step site g h → R g ≡ true → R h ≡ false → cutItem site R (site .S) (radiosOf (h ∷ g ∷ trail) after) ≡ itemAt site g h
-      here (inside v a c q ns nt) i′ o′ = rw (c, radios-out v (g ∷ trail) after) (not-yet g trail after (back .1) i′ ∙ rw a (stops-inside site R v after (rw c at o′)))
+      here (inside v a c q) i′ o′ = rw (c, radios-out v (g ∷ trail) after) (not-yet g trail after (back .1) i′ ∙ rw a (stops-inside site R v after (rw c at o′)))
       here (over u v a c l nt ns) i′ o′ = rw (c, radios-in v (g ∷ trail) after) (not-yet g trail (v ∷ after) (back .1) i′ ∙ rw a (stops-over site R u v after (rw c at o′)))
 
       go : ((x ≡ h) × (y ≡ g)) ⊎ Beside y x (g ∷ trail) → ((after′ : List ℕ) → Beside y x (g ∷ trail) → cutItem site R (site .S) (radiosOf (g ∷ trail) after′) ≡ itemAt site y x) → cutItem site R (site .S) (radiosOf (h ∷ g ∷ trail) after) ≡ itemAt site y x

@@ -51,7 +51,7 @@ module _ {site : Site} (valid : Valid site) {p : ℕ} {m : Marks} (flow : Flow (
       one = over-one (R g) (R h) (none-enters flow shut g h (back .0))
 
       go : Step site g h → ((after′ : List ℕ) → leavings R (site .S) (radiosOf (g ∷ trail) after′) ≡ oneIf (not (R g)) + leavingsFrom R g after′) → leavings R (site .S) (radiosOf (h ∷ g ∷ trail) after) ≡ oneIf (not (R h)) + leavingsFrom R h after
-      go (inside v x y q ns nt) ih = rw (y, radios-out v (g ∷ trail) after) (ih after ∙ rw x (omega (arith, rw (x, y) at one, from-in R v after, from-out R v after)))
+      go (inside v x y q) ih = rw (y, radios-out v (g ∷ trail) after) (ih after ∙ rw x (omega (arith, rw (x, y) at one, from-in R v after, from-out R v after)))
       go (over u v x y l nt ns) ih = rw (y, radios-in v (g ∷ trail) after) (ih (v ∷ after) ∙ rw x (omega (arith, rw (x, y) at one, from-out R u (v ∷ after), from-in R v after)))
 
   -- each path leaves R exactly once

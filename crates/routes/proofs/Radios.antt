@@ -85,7 +85,7 @@ module _ (site : Site) (m : Marks) (on : (a b : ℕ) → m a b ≡ true → step
   leads h (g ∷ trail) after back w = go (step-of site g h (on g h (back .0))) (λ after′. leads g trail after′ (back .1))
     where
       go : Step site g h → ((after′ : List ℕ) → LeadsToT site (radioOf g) after′ → LeadsToT site (site .S) (radiosOf (g ∷ trail) after′)) → LeadsToT site (site .S) (radiosOf (h ∷ g ∷ trail) after)
-      go (inside v x y p ns nt) ih = let same : radioOf h ≡ radioOf g = omega arith in rw (y, radios-out v (g ∷ trail) after) (ih after (rw same at w))
+      go (inside v x y p) ih = let same : radioOf h ≡ radioOf g = omega arith in rw (y, radios-out v (g ∷ trail) after) (ih after (rw same at w))
       go (over u v x y e nt ns) ih =
           let from : radioOf g ≡ u = omega arith in
           let to : radioOf h ≡ v = omega arith in
@@ -98,7 +98,7 @@ module _ (site : Site) (m : Marks) (on : (a b : ℕ) → m a b ≡ true → step
   not-to-S (x ∷ (y ∷ trail)) back h = go (among-cases (inHalf (site .S)) x (y ∷ trail) h) (not-to-S (y ∷ trail) (back .1))
     where
       never : Step site y x → inHalf (site .S) ≡ x → ⊥
-      never (inside v a b p ns nt) e = omega arith
+      never (inside v a b p) e = omega arith
       never (over u v a b l nt ns) e = ns (omega arith)
 
       go : (inHalf (site .S) ≡ x) ⊎ (among (inHalf (site .S)) (y ∷ trail) ≡ true) → (among (inHalf (site .S)) (y ∷ trail) ≡ true → ⊥) → ⊥

@@ -2,54 +2,40 @@
 use mathlib.Core.Path.{_≡_}
 use mathlib.Core.Bool.{true}
 use mathlib.Core.Logic.{_⊎_, inl, inr}
-use Prim.Native.Nat.{ℕ, _*_, _%_, _<_}
+use Prim.Native.Nat.{ℕ, _%_}
 use native.Mathlib.Omega.{arith}
 use native.Mathlib.Decide.{ℕ-discrete}
 use Rattle.site.specs.Map.{Site, step, inHalf, outHalf}
-use Rattle.site.proofs.Steps.{Step, inside, over, step-of, linked-says}
+use Rattle.site.proofs.Steps.{Step, inside, over, step-of, passes-says, step-below, one-way}
 use Rattle.site.proofs.Valid.{Valid}
 use Rattle.menger.proofs.Network.{Split}
 use Rattle.routes.proofs.Trails.{networkOf}
 
 module _ (site : Site) where
-  from-below : (a b : ℕ) → Step site a b → a < 2 * site .n
-  from-below a b (inside v x y p ns nt) = omega arith
-  from-below a b (over u v x y e nt ns) = omega (arith, linked-says site u v e .from-below)
-
-  to-below : (a b : ℕ) → Step site a b → b < 2 * site .n
-  to-below a b (inside v x y p ns nt) = omega arith
-  to-below a b (over u v x y e nt ns) = omega (arith, linked-says site u v e .to-below)
-
-  one-way : (a b : ℕ) → Step site a b → Step site b a → ⊥
-  one-way a b (inside v x y p ns nt) (inside v′ x′ y′ p′ ns′ nt′) = omega arith
-  one-way a b (inside v x y p ns nt) (over u′ v′ x′ y′ e′ nt′ ns′) = linked-says site u′ v′ e′ .differ (omega arith)
-  one-way a b (over u v x y e nt ns) (inside v′ x′ y′ p′ ns′ nt′) = linked-says site u v e .differ (omega arith)
-  one-way a b (over u v x y e nt ns) (over u′ v′ x′ y′ e′ nt′ ns′) = omega arith
-
   into-source : (a : ℕ) → Step site a (outHalf (site .S)) → ⊥
-  into-source a (inside v x y p ns nt) = ns (omega arith)
+  into-source a (inside v x y p) = passes-says site v p .not-S (omega arith)
   into-source a (over u v x y e nt ns) = omega arith
 
   from-goal : (b : ℕ) → Step site (inHalf (site .T)) b → ⊥
-  from-goal b (inside v x y p ns nt) = nt (omega arith)
+  from-goal b (inside v x y p) = passes-says site v p .not-T (omega arith)
   from-goal b (over u v x y e nt ns) = omega arith
 
   one-step-out : (h a b : ℕ) → h % 2 ≡ 0 → Step site h a → Step site h b → a ≡ b
-  one-step-out h a b even (inside v x y p ns nt) (inside v′ x′ y′ p′ ns′ nt′) = omega arith
-  one-step-out h a b even (inside v x y p ns nt) (over u′ v′ x′ y′ e′ nt′ ns′) = omega arith
+  one-step-out h a b even (inside v x y p) (inside v′ x′ y′ p′) = omega arith
+  one-step-out h a b even (inside v x y p) (over u′ v′ x′ y′ e′ nt′ ns′) = omega arith
   one-step-out h a b even (over u v x y e nt ns) other = omega arith
 
   one-step-in : (h a b : ℕ) → (h % 2 ≡ 0 → ⊥) → Step site a h → Step site b h → a ≡ b
-  one-step-in h a b odd (inside v x y p ns nt) (inside v′ x′ y′ p′ ns′ nt′) = omega arith
-  one-step-in h a b odd (inside v x y p ns nt) (over u′ v′ x′ y′ e′ nt′ ns′) = omega arith
+  one-step-in h a b odd (inside v x y p) (inside v′ x′ y′ p′) = omega arith
+  one-step-in h a b odd (inside v x y p) (over u′ v′ x′ y′ e′ nt′ ns′) = omega arith
   one-step-in h a b odd (over u v x y e nt ns) other = absurd (odd (omega arith))
 
   -- the map of a valid site is a split network
   pub split-of : Valid site → Split (networkOf site)
   split-of valid = record {
-    from-below = λ a b e. from-below a b (step-of site a b e);
-    to-below = λ a b e. to-below a b (step-of site a b e);
-    one-way = λ a b e f. one-way a b (step-of site a b e) (step-of site b a f);
+    from-below = λ a b e. step-below site a b (step-of site a b e) .0;
+    to-below = λ a b e. step-below site a b (step-of site a b e) .1;
+    one-way = λ a b e f. one-way site a b (step-of site a b e) (step-of site b a f);
     none-into-source = λ a e. into-source a (step-of site a _ e);
     none-from-goal = λ b e. from-goal b (step-of site _ b e);
     source-below = omega (arith, valid .S-below);

@@ -132,7 +132,7 @@ module _ {site : Site} (valid : Valid site) {p : ℕ} {m : Marks} (flow : Flow (
   start-of z e = go (step-of site (outHalf (site .S)) z (flow .on-steps (outHalf (site .S)) z e))
     where
       go : Step site (outHalf (site .S)) z → (v : ℕ) × (z ≡ inHalf v) × (v < site .n)
-      go (inside v x y below ns nt) = absurd (omega arith)
+      go (inside v x y below) = absurd (omega arith)
       go (over u v x y l nt ns) = (v, y, linked-says site u v l .to-below)
 
   -- where DONE comes to, but T's in half, the step that it takes next is marked
@@ -143,5 +143,5 @@ module _ {site : Site} (valid : Valid site) {p : ℕ} {m : Marks} (flow : Flow (
       go on = by (step-of site h (on .0) (flow .on-steps h (on .0) (on .1)))
         where
           by : Step site h (on .0) → m h (onward site m h) ≡ true
-          by (inside v x y q ns nt) = rw (x, onward-in site m v) (rw (x, y) at (on .1))
+          by (inside v x y q) = rw (x, onward-in site m v) (rw (x, y) at (on .1))
           by (over u v x y l nt ns) = rw (x, onward-out site m u) (next-found site m (outHalf u) v (linked-says site u v l .to-below) (rw (x, y) at (on .1)))

@@ -11,7 +11,7 @@ use Rattle.basics.specs.Counting.{oneIf, count, firstOf}
 use Rattle.basics.proofs.Bools.{and-left, and-right, or-cases, or-right}
 use Rattle.basics.proofs.Counting.{sum-update, sum-le, one-le, some-counts, first-from}
 use Rattle.site.specs.Map.{Site, inHalf, outHalf, radioOf, isOut, step}
-use Rattle.site.proofs.Steps.{Step, inside, over as overLink, step-of, linked-says}
+use Rattle.site.proofs.Steps.{step-of, step-below}
 use Rattle.openings.proofs.Order.{from-past}
 use Rattle.tokens.specs.declared.Kind.the-variants.{Done}
 use Rattle.tokens.specs.declared.Message.{Message}
@@ -32,16 +32,9 @@ Fine plan over = Unit
 
 -- ---- steps
 
-step-below : (site : Site) (a b : ℕ) → step site a b ≡ true → (a < 2 * site .n) × (b < 2 * site .n)
-step-below site a b e = go (step-of site a b e)
-  where
-    go : Step site a b → (a < 2 * site .n) × (b < 2 * site .n)
-    go (inside v p q l ns nt) = (omega arith, omega arith)
-    go (overLink u v p q l nt ns) = let w = linked-says site u v l in (omega (arith, w .from-below), omega (arith, w .to-below))
-
 pub joined-below : (site : Site) (a b : ℕ) → Joined site a b → (a < 2 * site .n) × (b < 2 * site .n)
-joined-below site a b (inl e) = step-below site a b e
-joined-below site a b (inr e) = let w = step-below site b a e in (w .1, w .0)
+joined-below site a b (inl e) = step-below site a b (step-of site a b e)
+joined-below site a b (inr e) = let w = step-below site b a (step-of site b a e) in (w .1, w .0)
 
 -- a half tries only what a step joins it to
 tried-joined : (site : Site) (marks : Marks) (h place : ℕ) → canTry site marks h place ≡ true → Joined site h (candidate site h place)

@@ -77,19 +77,34 @@ linked-says site u v e =
     let parts : (ltb u (site .n) ≡ true) × (ltb v (site .n) ≡ true) × (not (eqb u v) ≡ true) = search (and-left, and-right) in
     record { from-below = ltb-true _ _ (parts .0); to-below = ltb-true _ _ (parts .1); differ = eqb-false _ _ (not-true _ (parts .2)) }
 
+-- what is known of a radio that may stand inside a path
+pub record Passes (site : Site) (v : ℕ) : Type 0 where
+  pub below : v < site .n
+  pub not-S : v ≡ site .S → ⊥
+  pub not-T : v ≡ site .T → ⊥
+
+pub passes-says : (site : Site) (v : ℕ) → passes site v ≡ true → Passes site v
+unfolding passes
+passes-says site v e =
+    let parts : (ltb v (site .n) ≡ true) × (not (eqb v (site .S)) ≡ true) × (not (eqb v (site .T)) ≡ true) = search (and-left, and-right) in
+    record { below = ltb-true _ _ (parts .0); not-S = eqb-false _ _ (not-true _ (parts .1)); not-T = eqb-false _ _ (not-true _ (parts .2)) }
+
+pub may-pass : (site : Site) (v : ℕ) → Passes site v → passes site v ≡ true
+unfolding passes
+may-pass site v may = rw (lt-ltb v (site .n) (may .below), ne-eqb v (site .S) (may .not-S), ne-eqb v (site .T) (may .not-T))
+
 -- a step leads inside a radio, or over a link
 pub data Step (site : Site) (a b : ℕ) : Type 0 where
-  inside : (v : ℕ) → a ≡ inHalf v → b ≡ outHalf v → v < site .n → (v ≡ site .S → ⊥) → (v ≡ site .T → ⊥) → Step site a b
+  inside : (v : ℕ) → a ≡ inHalf v → b ≡ outHalf v → passes site v ≡ true → Step site a b
   over : (u v : ℕ) → a ≡ outHalf u → b ≡ inHalf v → linkedOn site u v ≡ true → (u ≡ site .T → ⊥) → (v ≡ site .S → ⊥) → Step site a b
 
 inside-of : (site : Site) (a b : ℕ) → insideStep site a b ≡ true → Step site a b
-unfolding insideStep passes
+unfolding insideStep
 inside-of site a b w =
-    let halves : (not (isOut a) ≡ true) × (eqb b (a + 1) ≡ true) = search (and-left, and-right) in
-    let pass : (ltb (radioOf a) (site .n) ≡ true) × (not (eqb (radioOf a) (site .S)) ≡ true) × (not (eqb (radioOf a) (site .T)) ≡ true) = search (and-left, and-right) in
+    let halves : (not (isOut a) ≡ true) × (eqb b (a + 1) ≡ true) × (passes site (radioOf a) ≡ true) = search (and-left, and-right) in
     let low : a % 2 ≡ 1 → ⊥ = eqb-false _ _ (not-true _ (halves .0)) in
     let next : b ≡ a + 1 = eqb-true _ _ (halves .1) in
-    inside (radioOf a) (omega arith) (omega arith) (ltb-true _ _ (pass .0)) (eqb-false _ _ (not-true _ (pass .1))) (eqb-false _ _ (not-true _ (pass .2)))
+    inside (radioOf a) (omega arith) (omega arith) (halves .2)
 
 over-of : (site : Site) (a b : ℕ) → linkStep site a b ≡ true → Step site a b
 unfolding linkStep exists
@@ -110,11 +125,27 @@ step-of site a b e = go (or-cases _ _ e)
     go (inl w) = inside-of site a b w
     go (inr w) = over-of site a b w
 
+-- a step joins two halves of the map
+pub step-below : (site : Site) (a b : ℕ) → Step site a b → (a < 2 * site .n) × (b < 2 * site .n)
+step-below site a b (inside v x y p) = let w = passes-says site v p in (omega (arith, w .below), omega (arith, w .below))
+step-below site a b (over u v x y e nt ns) = let w = linked-says site u v e in (omega (arith, w .from-below), omega (arith, w .to-below))
+
+-- one of each side
+pub step-sides : (site : Site) (a b : ℕ) → Step site a b → (a + b) % 2 ≡ 1
+step-sides site a b (inside v x y p) = omega arith
+step-sides site a b (over u v x y e nt ns) = omega arith
+
+-- and has no step back
+pub one-way : (site : Site) (a b : ℕ) → Step site a b → Step site b a → ⊥
+one-way site a b (inside v x y p) (inside v′ x′ y′ p′) = omega arith
+one-way site a b (inside v x y p) (over u′ v′ x′ y′ e′ nt′ ns′) = linked-says site u′ v′ e′ .differ (omega arith)
+one-way site a b (over u v x y e nt ns) (inside v′ x′ y′ p′) = linked-says site u v e .differ (omega arith)
+one-way site a b (over u v x y e nt ns) (over u′ v′ x′ y′ e′ nt′ ns′) = omega arith
+
 -- ---- the steps that there are
 
-pub inside-step : (site : Site) (v : ℕ) → v < site .n → (v ≡ site .S → ⊥) → (v ≡ site .T → ⊥) → step site (inHalf v) (outHalf v) ≡ true
-unfolding passes
-inside-step site v p ns nt = rw (step-inside site v (outHalf v), eq-eqb (outHalf v) (outHalf v) refl, lt-ltb v (site .n) p, ne-eqb v (site .S) ns, ne-eqb v (site .T) nt)
+pub inside-step : (site : Site) (v : ℕ) → passes site v ≡ true → step site (inHalf v) (outHalf v) ≡ true
+inside-step site v e = rw (step-inside site v (outHalf v), eq-eqb (outHalf v) (outHalf v) refl, e)
 
 pub over-step : (site : Site) (u v : ℕ) → linkedOn site u v ≡ true → (u ≡ site .T → ⊥) → (v ≡ site .S → ⊥) → step site (outHalf u) (inHalf v) ≡ true
 over-step site u v e nt ns = let w = linked-says site u v e in step-link site u v (w .from-below) (w .to-below) nt ns ∙ e

@@ -5,7 +5,8 @@ use mathlib.Core.Logic.{⊎-elim}
 use borrow.Author.Needs.{needs}
 use borrow.Author.Tests.{eqb-true, eqb-false}
 use Rattle.radios.proofs.Laws.{member-empty}
-use Rattle.openings.proofs.Start.{may-pass, not-S, not-T, no-way}
+use Rattle.site.proofs.Steps.{may-pass}
+use Rattle.openings.proofs.Start.{not-S, not-T, no-way}
 use Rattle.openings.proofs.inside.Statement.{statement}
 use Rattle.openings.proofs.inside.Tie as tie
 
@@ -17,7 +18,7 @@ returns c = λ site v below source sink. no-way site _ (⊎-elim (λ w. not-S si
 
 returns-2 : tie.Need-returns-2
 returns-2 c = λ site v below source sink.
-    let pass = may-pass site _ below (λ e. past tie.Else1 (search) .if1 .left (e ∙ source)) (λ e. eqb-false _ _ (past tie.Else2 (search) .if2 .left) (e ∙ sink)) in
+    let pass = may-pass site _ (record { below = below; not-S = λ e. past tie.Else1 (search) .if1 .left (e ∙ source); not-T = λ e. eqb-false _ _ (past tie.Else2 (search) .if2 .left) (e ∙ sink) }) in
     c .with .ensures v ∙ rw (member-empty v, pass, or-false, and-true) refl
 
 pub inside-spec : {M : Type 1} → statement M
