@@ -57,20 +57,21 @@ linesOf [] = []
 linesOf (last ∷ []) = []
 linesOf (line ∷ next ∷ rest) = lineOf line ∷ linesOf (next ∷ rest)
 
--- the line says this link
-abbrev pub saysLink : ℕ → ℕ → Line → Bool
-saysLink u v (Link a b) = eqb u a && eqb v b
-saysLink u v NoRecord = false
+-- two lines say the same link
+abbrev pub says : Line → Line → Bool
+says (Link u v) (Link a b) = eqb u a && eqb v b
+says (Link u v) NoRecord = false
+says NoRecord other = false
 
--- the pair came before
-unfoldable pub came : ℕ → ℕ → List Line → Bool
-came u v [] = false
-came u v (line ∷ before) = saysLink u v line || came u v before
+-- what the line says came before
+unfoldable pub came : Line → List Line → Bool
+came line [] = false
+came line (other ∷ before) = says line other || came line before
 
 -- 11: what is wrong with a line after those before it. A link's first radio is not below the second, or the second is not below n, or the
--- pair came before
+-- link came before
 abbrev pub atFault : ℕ → List Line → Line → Bool
-atFault n before (Link u v) = not (ltb u v) || not (ltb v n) || came u v before
+atFault n before (Link u v) = not (ltb u v) || not (ltb v n) || came (Link u v) before
 atFault n before NoRecord = false
 
 -- the number of the first line at fault, of lines of which the first is line `number`; 0 where there is none. Every line counts

@@ -1,60 +1,47 @@
--- The table that the lines fill: a pair came before exactly if its cell is 1. Assumes nothing.
-use mathlib.Core.Path.{_≡_, refl, sym, ap, _∙_}
-use mathlib.Core.Bool.{Bool, true, false, _&&_, _||_, cond, and-false, or-true}
+-- The table that the lines fill: what a line says came before exactly if its own cell is 1. Assumes nothing.
+use mathlib.Core.Path.{_≡_, refl, sym, ap, ap₂, _∙_}
+use mathlib.Core.Bool.{Bool, true, false, _||_, cond, or-true}
 use mathlib.Core.List.{List, [], _∷_, _++_, append-assoc, append-nil}
-use Prim.Native.Nat.{ℕ, _+_, _-_, _*_, _/_, _%_, _≤_, _<_}
-use native.Mathlib.Decide.{ℕ-discrete, decLt}
+use Prim.Native.Nat.{ℕ, _+_, _-_, _*_, _≤_, _<_}
+use native.Mathlib.Decide.{decLt}
 use native.Mathlib.Numerals.{add-one}
 use native.Mathlib.Omega.{arith}
 use lib.Dec.{eqb}
-use lib.ListN.{length, getD, take, set, replicate, length-append, length-set, length-replicate, getD-replicate}
-use lib.Seq.{getD-set-same, getD-set-other, take-at}
-use borrow.Author.Tests.{eq-eqb, ne-eqb, lt-ltb, le-ltb, not-true, not-false}
-use Rattle.basics.proofs.Bools.{clash}
-use Rattle.basics.proofs.Places.{row-of, column-of, in-table}
+use lib.ListN.{length, getD, take, replicate, length-append, length-replicate, getD-replicate}
+use lib.Seq.{take-at}
+use borrow.Author.Tests.{ne-eqb, lt-ltb, le-ltb, not-true, not-false}
 use Rattle.captures.specs.Words.{lineFeed}
-use Rattle.captures.specs.Capture.{lineOf, linesOf, came, atFault, faultLine, withLine, tableWith, tableOf}
+use Rattle.captures.specs.Capture.{lineOf, isRecord, linesOf, came, atFault, faultLine, withLine, tableWith, tableOf}
 use Rattle.captures.specs.Reading.{endOf, part}
 use Rattle.captures.specs.declared.Line.{Line}
 use Rattle.captures.specs.declared.Line.the-variants.{Link, NoRecord}
+use Rattle.captures.proofs.Cells.{isCell, with-cell, with-long, cellOf, Ordered, own-in, own-cell, good-ordered}
 use Rattle.captures.proofs.Pieces.{piecesFrom, pieces-from, pieces-past, next-piece, end-between}
 use Rattle.texts.specs.Table.{faultIn, Added, linesFrom, LinesRead}
 
--- ---- places
-
--- a place is of one row and one column
-same-place : (n a b u v : ℕ) → b < n → v < n → a * n + b ≡ u * n + v → (a ≡ u) × (b ≡ v)
-same-place n a b u v hb hv e =
-    (sym (row-of n a b hb) ∙ ap (λ (x : ℕ). x / n) e ∙ row-of n u v hv, sym (column-of n a b hb) ∙ ap (λ (x : ℕ). x % n) e ∙ column-of n u v hv)
-
 -- ---- the cells
 
--- the cell of a pair below n is 1 exactly if the pair came before
+-- the own cell of a line is 1 exactly if what it says came before
 abbrev pub Cells : ℕ → List ℕ → List Line → Type 0
-Cells n table before = (a b : ℕ) → a < b → b < n → came a b before ≡ eqb (getD table (a * n + b) 0) 1
+Cells n table before = (line : Line) → isRecord line ≡ true → Ordered n line → came line before ≡ eqb (getD table (cellOf n line) 0) 1
 
 cells-none : (n : ℕ) → Cells n (replicate (n * n) 0) []
 unfolding came
-cells-none n a b p q = rw (getD-replicate {A = ℕ} (n * n) (a * n + b) 0 0 (in-table n a b (omega arith) q))
+cells-none n line is ord = rw (getD-replicate {A = ℕ} (n * n) (cellOf n line) 0 0 (own-in n line is ord))
 
-cells-linked : (n : ℕ) (table : List ℕ) (before : List Line) (u v : ℕ) → length table ≡ n * n → u < v → v < n → Cells n table before → Cells n (withLine n table (Link u v)) (Link u v ∷ before)
+-- a cell that is set is 1, and another is as it was
+set-or-was : (b : Bool) (was : ℕ) → (b || eqb was 1) ≡ eqb (cond b 1 was) 1
+set-or-was true was = refl
+set-or-was false was = refl
+
+-- the table of one line more
+cells-more : (n : ℕ) (table : List ℕ) (before : List Line) (new : Line) → length table ≡ n * n → Ordered n new → Cells n table before → Cells n (withLine n table new) (new ∷ before)
 unfolding came
-cells-linked n table before u v long less below cells a b p q = pick (ℕ-discrete a u) (ℕ-discrete b v)
-  where
-    here : getD (withLine n table (Link u v)) (u * n + v) 0 ≡ 1
-    here =
-        getD-set-other (set table (u * n + v) 1) (v * n + u) (u * n + v) 1 0 (λ e. absurd (omega (arith, same-place n u v v u below (omega arith) e .0)))
-        ∙ getD-set-same table (u * n + v) 1 0 (omega (arith, in-table n u v (omega arith) below))
-
-    there : (a ≡ u → b ≡ v → ⊥) → getD (withLine n table (Link u v)) (a * n + b) 0 ≡ getD table (a * n + b) 0
-    there d =
-        getD-set-other (set table (u * n + v) 1) (v * n + u) (a * n + b) 1 0 (λ e. let s = same-place n a b v u q (omega arith) e in absurd (omega (arith, s .0, s .1)))
-        ∙ getD-set-other table (u * n + v) (a * n + b) 1 0 (λ e. let s = same-place n a b u v q below e in absurd (d (s .0) (s .1)))
-
-    pick : Dec (a ≡ u) → Dec (b ≡ v) → ((eqb a u && eqb b v) || came a b before) ≡ eqb (getD (withLine n table (Link u v)) (a * n + b) 0) 1
-    pick (yes e) (yes f) = rw (e, f, eq-eqb u u refl, eq-eqb v v refl, here)
-    pick (no d) f = rw (ne-eqb a u d, there (λ e g. d e)) (cells a b p q)
-    pick (yes e) (no d) = rw (ne-eqb b v d, and-false, there (λ x g. d g)) (cells a b p q)
+cells-more n table before new long ordered cells line is ord =
+    let within : cellOf n line < length table = omega (arith, own-in n line is ord) in
+    ap₂ (λ (a b : Bool). a || b) (sym (own-cell n line new is ord ordered)) (cells line is ord)
+    ∙ set-or-was (isCell n (cellOf n line) new) (getD table (cellOf n line) 0)
+    ∙ ap (λ (x : ℕ). eqb x 1) (sym (with-cell n table new (cellOf n line) within))
 
 -- so the table tells a line at fault
 fault-told : (n : ℕ) (table : List ℕ) (before : List Line) (line : Line) → Cells n table before → atFault n before line ≡ faultIn n table line
@@ -62,7 +49,7 @@ fault-told n table before NoRecord cells = refl
 fault-told n table before (Link u v) cells = pick (decLt u v) (decLt v n)
   where
     pick : Dec (u < v) → Dec (v < n) → atFault n before (Link u v) ≡ faultIn n table (Link u v)
-    pick (yes p) (yes q) = rw (cells u v p q)
+    pick (yes p) (yes q) = rw (cells (Link u v) refl (p, q))
     pick (no p) q = rw (le-ltb u v (omega arith))
     pick (yes p) (no q) = rw (lt-ltb u v p, le-ltb v n (omega arith))
 
@@ -81,25 +68,6 @@ module _ (n : ℕ) (table : List ℕ) (u v : ℕ) where
 
     pub fault-none : (getD table place 0 ≡ 1 → ⊥) → faultIn n table (Link u v) ≡ false
     fault-none h = simp (← e, ne-eqb (getD table place 0) 1 h, lt-ltb u v p, lt-ltb v n q)
-
--- the radios of a good link stand in order
-good-order : (n : ℕ) (table : List ℕ) (u v : ℕ) → faultIn n table (Link u v) ≡ false → (u < v) × (v < n)
-good-order n table u v good = pick (decLt u v) (decLt v n)
-  where
-    pick : Dec (u < v) → Dec (v < n) → (u < v) × (v < n)
-    pick (yes p) (yes q) = (p, q)
-    pick (no p) q = clash (fault-order n table u v (omega arith)) good
-    pick (yes p) (no q) = clash (fault-above n table u v (omega arith)) good
-
--- the table of one good line more
-cells-more : (n : ℕ) (table : List ℕ) (before : List Line) (line : Line) → length table ≡ n * n → faultIn n table line ≡ false → Cells n table before → Cells n (withLine n table line) (line ∷ before)
-unfolding came
-cells-more n table before NoRecord long good cells = cells
-cells-more n table before (Link u v) long good cells = let order = good-order n table u v good in cells-linked n table before u v long (order .0) (order .1) cells
-
-with-long : (n : ℕ) (table : List ℕ) (line : Line) → length (withLine n table line) ≡ length table
-with-long n table NoRecord = refl
-with-long n table (Link u v) = length-set (set table (u * n + v) 1) (v * n + u) 1 ∙ length-set table (u * n + v) 1
 
 pub added-not : {n : ℕ} {table : List ℕ} {line : Line} → faultIn n table line ≡ true → Added n table line table false
 added-not bad = record { told = rw bad; joined = refl }
@@ -194,6 +162,7 @@ module _ {text : List ℕ} {from n : ℕ} {table : List ℕ} {number at end : �
       unfolding faultLine
       filling-more taken e =
           let fine : faultIn n table line ≡ false = not-true (faultIn n table line) (sym (added .told) ∙ taken) in
+          let ordered : Ordered n line = good-ordered n (filling .before) line (fault-told n table (filling .before) line (filling .cells) ∙ fine) in
           let has : after ≡ withLine n table line = added .joined ∙ ap (λ (b : Bool). cond b (withLine n table line) table) taken in
           record {
             within = omega arith;
@@ -205,7 +174,7 @@ module _ {text : List ℕ} {from n : ℕ} {table : List ℕ} {number at end : �
             parted = filling .parted ∙ ap (λ (lines : List Line). filling .read ++ lines) lines-said ∙ sym (append-assoc (filling .read) (line ∷ []) _);
             has = has ∙ ap (λ (t : List ℕ). withLine n t line) (filling .has) ∙ sym (table-more n (replicate (n * n) 0) (filling .read) line);
             before = line ∷ filling .before;
-            cells = rw has (cells-more n table (filling .before) line (filling .long) fine (filling .cells));
+            cells = rw has (cells-more n table (filling .before) line (filling .long) ordered (filling .cells));
             fault = filling .fault ∙ ap (faultLine n number (filling .before)) lines-said ∙ rw (fault-told n table (filling .before) line (filling .cells), fine, add-one number);
           }
 

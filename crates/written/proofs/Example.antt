@@ -2,10 +2,10 @@
 use mathlib.Core.Path.{_≡_, refl}
 use mathlib.Core.List.{[], _∷_}
 use Rattle.captures.specs.Text.{digits}
-use Rattle.written.specs.Writing.{linkLines, captureText, linksFrom, linksIn}
+use Rattle.written.specs.Writing.{linesText, captureText, cellLines, linesIn}
 
 -- net 10 2 0 1 1, and link 0 1
-pub text-of-a-pair : captureText 10 2 0 1 1 (linksIn 2 (0 ∷ 1 ∷ 1 ∷ 0 ∷ []))
+pub text-of-a-pair : captureText 10 2 0 1 1 (linesIn 2 (0 ∷ 1 ∷ 1 ∷ 0 ∷ []))
     ≡ 110 ∷ 101 ∷ 116 ∷ 9 ∷ 49 ∷ 48 ∷ 9 ∷ 50 ∷ 9 ∷ 48 ∷ 9 ∷ 49 ∷ 9 ∷ 49 ∷ 10 ∷ 108 ∷ 105 ∷ 110 ∷ 107 ∷ 9 ∷ 48 ∷ 9 ∷ 49 ∷ 10 ∷ []
-unfolding digits linkLines linksFrom
+unfolding digits linesText cellLines
 text-of-a-pair = refl

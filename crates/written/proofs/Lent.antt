@@ -1,15 +1,15 @@
 -- The program lends enough, and makes its table itself: of the refusals of a call those that it makes meet only 4, 5 and 6. Assumes nothing.
 use mathlib.Core.Path.{_≡_, refl, sym, ap, _∙_}
-use mathlib.Core.Bool.{Bool, true, false, not, _||_, cond}
-use mathlib.Core.List.{List, [], _∷_, _++_}
+use mathlib.Core.Bool.{Bool, true, false, _||_, cond}
+use mathlib.Core.List.{List, [], _∷_, _++_, List·Memᴰ}
 use mathlib.Core.Logic.{_⊎_, inl, inr}
 use Prim.Native.Nat.{ℕ, suc, _+_, _*_, _/_, _%_, _≤_, _<_}
-use native.Mathlib.Nat.{div-add-mod', mul-le-mul}
+use native.Mathlib.Nat.{mul-le-mul}
 use native.Mathlib.Decide.{ℕ-discrete}
 use native.Mathlib.Omega.{arith}
-use lib.Dec.{eqb, ltb}
+use lib.Dec.{eqb}
 use lib.ListN.{getD}
-use borrow.Author.Tests.{eq-eqb, eqb-true, ltb-true}
+use borrow.Author.Tests.{eq-eqb, eqb-true}
 use Rattle.basics.specs.Counting.{oneIf}
 use Rattle.basics.specs.Lists.{All}
 use Rattle.basics.proofs.Bools.{clash, both-ways, or-left, or-right, or-cases}
@@ -24,30 +24,17 @@ use Rattle.site.proofs.Formula.{Even, steps-and-degrees}
 use Rattle.refusals.proofs.Exactly.{call-exact}
 use Rattle.refusals.proofs.Accepted.{SoundMap, sound-map, GoodPair, good-pair}
 use Rattle.outcome.specs.Leaves.{outcome}
-use Rattle.captures.specs.Capture.{came, atFault, faultLine, tableOf}
+use Rattle.captures.specs.Capture.{isRecord, atFault, faultLine, tableOf}
 use Rattle.captures.specs.declared.Line.{Line}
 use Rattle.captures.specs.declared.Line.the-variants.{Link, NoRecord}
 use Rattle.text_survey.specs.Survey.{logLent, pathsLent, cutLent}
-use Rattle.basics.proofs.Places.{row-of, column-of, in-table, row-below, column-below}
-use Rattle.written.proofs.Tables.{isCell, inCells, table-of-long, table-of-cell}
+use Rattle.basics.proofs.Places.{row-of, column-of}
+use Rattle.captures.proofs.Cells.{isCell, cellOf, mirrorOf, Ordered, own-in, cells-are, mirror-in, mirror-back, good-ordered}
+use Rattle.written.proofs.Tables.{inCells, all-there, cell-in, cell-of, cell-record, table-of-long, table-of-cell}
 
--- ---- 3, 12 and 13: the table of good links has no bad cell
+-- ---- 3, 12 and 13: the table of good lines has no bad cell
 
--- the radios of a line that is not at fault
-abbrev Ordered : ℕ → Line → Type 0
-Ordered n (Link u v) = (u < v) × (v < n)
-Ordered n NoRecord = Unit {0}
-
-good-ordered : (n : ℕ) (before : List Line) (line : Line) → atFault n before line ≡ false → Ordered n line
-good-ordered n before NoRecord good = tt
-good-ordered n before (Link u v) good = go (ltb u v) (ltb v n) refl refl good
-  where
-    go : (a b : Bool) → ltb u v ≡ a → ltb v n ≡ b → (not a || not b || came u v before) ≡ false → (u < v) × (v < n)
-    go true true p q g = (ltb-true _ _ p, ltb-true _ _ q)
-    go true false p q g = clash refl g
-    go false b p q g = clash refl g
-
--- where no line is at fault every link is in order
+-- where no line is at fault all are in order
 all-ordered : (n number : ℕ) (before lines : List Line) → faultLine n (suc number) before lines ≡ 0 → All (Ordered n) lines
 unfolding faultLine
 all-ordered n number before [] e = tt
@@ -58,65 +45,43 @@ all-ordered n number before (line ∷ lines) e = go (atFault n before line) refl
     go true is z rest = absurd (omega arith)
     go false is z rest = (good-ordered n before line is, rest z)
 
--- the place on the other side of the diagonal
-abbrev other : ℕ → ℕ → ℕ
-other n place = place % n * n + place / n
-
--- what is known of a place that is a link's cell: so is its mirror, which the test tells, and it is not on the diagonal
-record OfLink (n place : ℕ) (mirror-is : Bool) : Type 0 where
-  mirror-too : mirror-is ≡ true
-  off-diagonal : place / n ≡ place % n → ⊥
-
-of-link : (n place : ℕ) (line : Line) → Ordered n line → isCell n place line ≡ true → OfLink n place (isCell n (other n place) line)
-of-link n place NoRecord ord c = clash c refl
-of-link n place (Link u v) ord c = go (or-cases (eqb place second) (eqb place first) c)
+-- the mirror of a line's cell is its cell too
+cell-mirror : (n : ℕ) (line : Line) (place : ℕ) → 0 < n → Ordered n line → isCell n place line ≡ true → isCell n (mirrorOf n place) line ≡ true
+cell-mirror n line place some ord c = cells-are n line (mirrorOf n place) is ord ∙ go (or-cases (eqb place own) (eqb place (mirrorOf n own)) (sym (cells-are n line place is ord) ∙ c))
   where
-    first : ℕ
-    first = u * n + v
+    own : ℕ
+    own = cellOf n line
 
-    second : ℕ
-    second = v * n + u
+    is : isRecord line ≡ true
+    is = cell-record n place line c
 
-    at : (a b : ℕ) → b < n → place ≡ a * n + b → (place / n ≡ a) × (place % n ≡ b)
-    at a b p e = (ap (λ (x : ℕ). x / n) e ∙ row-of n a b p, ap (λ (x : ℕ). x % n) e ∙ column-of n a b p)
+    go : (eqb place own ≡ true) ⊎ (eqb place (mirrorOf n own) ≡ true) → (eqb (mirrorOf n place) own || eqb (mirrorOf n place) (mirrorOf n own)) ≡ true
+    go (inl e) = or-right (eqb (mirrorOf n place) own) (eqb (mirrorOf n place) (mirrorOf n own)) (eq-eqb _ _ (ap (mirrorOf n) (eqb-true _ _ e)))
+    go (inr e) = or-left (eqb (mirrorOf n place) own) (eqb (mirrorOf n place) (mirrorOf n own)) (eq-eqb _ _ (ap (mirrorOf n) (eqb-true _ _ e) ∙ mirror-back n own (own-in n line is ord) some))
 
-    go : (eqb place second ≡ true) ⊎ (eqb place first ≡ true) → OfLink n place (isCell n (other n place) (Link u v))
-    go (inl h) =
-        let w = at v u (omega (arith, ord .0, ord .1)) (eqb-true place second h) in
-        let mirrored : other n place ≡ first = rw (w .0, w .1) refl in
-        record { mirror-too = or-right (eqb (other n place) second) (eqb (other n place) first) (eq-eqb _ _ mirrored); off-diagonal = λ e. omega (arith, w .0, w .1, ord .0) }
-    go (inr h) =
-        let w = at u v (ord .1) (eqb-true place first h) in
-        let mirrored : other n place ≡ second = rw (w .0, w .1) refl in
-        record { mirror-too = or-left (eqb (other n place) second) (eqb (other n place) first) (eq-eqb _ _ mirrored); off-diagonal = λ e. omega (arith, w .0, w .1, ord .0) }
-
-of-links : (n place : ℕ) (lines : List Line) → All (Ordered n) lines → inCells n place lines ≡ true → OfLink n place (inCells n (other n place) lines)
-of-links n place [] ord c = clash c refl
-of-links n place (line ∷ lines) ord c = go (or-cases (isCell n place line) (inCells n place lines) c) (of-links n place lines (ord .1))
+-- which is not on the diagonal
+cell-off : (n : ℕ) (line : Line) (place : ℕ) → Ordered n line → isCell n place line ≡ true → place / n ≡ place % n → ⊥
+cell-off n NoRecord place ord c on = clash c refl
+cell-off n (Link u v) place ord c on = go (or-cases (eqb place (u * n + v)) (eqb place (v * n + u)) c)
   where
-    go : (isCell n place line ≡ true) ⊎ (inCells n place lines ≡ true) → (inCells n place lines ≡ true → OfLink n place (inCells n (other n place) lines))
-        → OfLink n place (inCells n (other n place) (line ∷ lines))
-    go (inl h) rest =
-        let w = of-link n place line (ord .0) h in
-        record { mirror-too = or-left (isCell n (other n place) line) (inCells n (other n place) lines) (w .mirror-too); off-diagonal = w .off-diagonal }
-    go (inr h) rest =
-        let w = rest h in
-        record { mirror-too = or-right (isCell n (other n place) line) (inCells n (other n place) lines) (w .mirror-too); off-diagonal = w .off-diagonal }
+    at : (a b : ℕ) → b < n → place ≡ a * n + b → a ≡ b
+    at a b p e = sym (ap (λ (x : ℕ). x / n) e ∙ row-of n a b p) ∙ on ∙ ap (λ (x : ℕ). x % n) e ∙ column-of n a b p
+
+    go : (eqb place (u * n + v) ≡ true) ⊎ (eqb place (v * n + u) ≡ true) → ⊥
+    go (inl e) = omega (arith, ord .0, at u v (ord .1) (eqb-true _ _ e))
+    go (inr e) = omega (arith, ord .0, at v u (omega (arith, ord .0, ord .1)) (eqb-true _ _ e))
 
 no-fault : (n : ℕ) (lines : List Line) → All (Ordered n) lines → 0 < n → (place : ℕ) → place < n * n → Fault (tableOf n lines) n place → ⊥
 no-fault n lines ord some place p = go (inCells n place lines) refl
   where
-    row : place / n < n
-    row = row-below n place some p
+    of : (line : Line) → List·Memᴰ line lines → Ordered n line
+    of = all-there (Ordered n) lines ord
 
-    mirror-in : other n place < n * n
-    mirror-in = in-table n (place % n) (place / n) (column-below n place some) row
+    mirror-too : (q : ℕ) → inCells n q lines ≡ true → inCells n (mirrorOf n q) lines ≡ true
+    mirror-too q c = let w = cell-in n q lines c in cell-of n (mirrorOf n q) (w .line) lines (w .there) (cell-mirror n (w .line) q some (of (w .line) (w .there)) (w .is))
 
-    back : other n (other n place) ≡ place
-    back = rw (row-of n (place % n) (place / n) row, column-of n (place % n) (place / n) row) (div-add-mod' place n)
-
-    same : inCells n place lines ≡ inCells n (other n place) lines
-    same = both-ways _ _ (λ c. of-links n place lines ord c .mirror-too) (λ c. ap (λ (x : ℕ). inCells n x lines) (sym back) ∙ of-links n (other n place) lines ord c .mirror-too)
+    same : inCells n place lines ≡ inCells n (mirrorOf n place) lines
+    same = both-ways _ _ (mirror-too place) (λ c. ap (λ (x : ℕ). inCells n x lines) (sym (mirror-back n place p some)) ∙ mirror-too (mirrorOf n place) c)
 
     cell : (b : Bool) → inCells n place lines ≡ b → getD (tableOf n lines) place 0 ≡ cond b 1 0
     cell b is = table-of-cell n lines place p ∙ ap (λ (x : Bool). cond x 1 0) is
@@ -124,9 +89,9 @@ no-fault n lines ord some place p = go (inCells n place lines) refl
     go : (b : Bool) → inCells n place lines ≡ b → Fault (tableOf n lines) n place → ⊥
     go true is (no-bit (zero, one)) = one (cell true is)
     go false is (no-bit (zero, one)) = zero (cell false is)
-    go true is (diagonal (on, nonzero)) = of-links n place lines ord is .off-diagonal on
+    go true is (diagonal (on, nonzero)) = let w = cell-in n place lines is in cell-off n (w .line) place (of (w .line) (w .there)) (w .is) on
     go false is (diagonal (on, nonzero)) = nonzero (cell false is)
-    go b is (mirror differ) = differ (cell b is ∙ sym (table-of-cell n lines (other n place) mirror-in ∙ ap (λ (x : Bool). cond x 1 0) (sym same ∙ is)))
+    go b is (mirror differ) = differ (cell b is ∙ sym (table-of-cell n lines (mirrorOf n place) (mirror-in n place p some) ∙ ap (λ (x : Bool). cond x 1 0) (sym same ∙ is)))
 
 -- ---- 7: the longest log
 

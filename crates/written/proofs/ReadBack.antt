@@ -1,4 +1,4 @@
--- Reading is the inverse of writing: a text that was written says the numbers and the links it was written from. Assumes nothing.
+-- Reading is the inverse of writing: a text that was written says the numbers and the lines that it was written from. Assumes nothing.
 use mathlib.Core.Path.{_≡_, refl, ap, _∙_}
 use mathlib.Core.Bool.{true, not}
 use mathlib.Core.List.{List, [], _∷_, _++_, append-assoc, tail}
@@ -11,11 +11,12 @@ use Rattle.basics.specs.Lists.{All}
 use Rattle.basics.proofs.Bools.{and-left, and-right}
 use Rattle.captures.specs.Words.{tab, lineFeed, net, link}
 use Rattle.captures.specs.Text.{pieces, same, isDigit, allDigits, mostNumber, decimal}
-use Rattle.captures.specs.Capture.{headOf, lineOf, rightShape, wrongLine, linesOf}
+use Rattle.captures.specs.Capture.{headOf, lineOf, isRecord, rightShape, wrongLine, linesOf}
 use Rattle.captures.specs.declared.Head.the-variants.{Net}
-use Rattle.captures.specs.declared.Line.the-variants.{Link}
+use Rattle.captures.specs.declared.Line.{Line}
+use Rattle.captures.specs.declared.Line.the-variants.{Link, NoRecord}
 use Rattle.sheet_lines.specs.Lines.{field}
-use Rattle.written.specs.Writing.{netFields, linkFields, linkLines, saying, captureText}
+use Rattle.written.specs.Writing.{netFields, lineFields, linesText, captureText}
 use Rattle.written.specs.Reading.{Sayable, ReadBack}
 use Rattle.written.proofs.Decimals.{decimal-digits, decimal-value, decimal-number}
 
@@ -103,66 +104,72 @@ link-free : (separator : ℕ) → separator < 48 → Free separator link
 link-free separator low =
     more {x = 108} (λ e. omega arith) (more {x = 105} (λ e. omega arith) (more {x = 110} (λ e. omega arith) (more {x = 107} (λ e. omega arith) none)))
 
-module _ (pair : ℕ × ℕ) where
-  link-parts : pieces tab (linkFields pair) ≡ link ∷ decimal (pair .0) ∷ decimal (pair .1) ∷ []
-  link-parts = piece-then tab link _ (link-free tab (omega arith)) ∙ ap (λ (p : List (List ℕ)). link ∷ p) (number-then (pair .0) _ _ (number-only (pair .1)))
+line-fields-free : (line : Line) → Sayable line → Free lineFeed (lineFields line)
+line-fields-free NoRecord small = absurd small
+line-fields-free (Link u v) small = free-append (link-free lineFeed (omega arith)) (free-append (field-free u) (field-free v))
 
-  link-fields-free : Free lineFeed (linkFields pair)
-  link-fields-free = free-append (link-free lineFeed (omega arith)) (free-append (field-free (pair .0)) (field-free (pair .1)))
+line-back : (line : Line) → Sayable line → lineOf (lineFields line) ≡ line
+unfolding lineOf same
+line-back NoRecord small = absurd small
+line-back (Link u v) small =
+    let parts : pieces tab (lineFields (Link u v)) ≡ link ∷ decimal u ∷ decimal v ∷ [] =
+    piece-then tab link _ (link-free tab (omega arith)) ∙ ap (λ (p : List (List ℕ)). link ∷ p) (number-then u _ _ (number-only v))
+    in
+    rw (parts, decimal-number u (small .0), decimal-number v (small .1), decimal-value u, decimal-value v)
 
-  link-back : Sayable pair → lineOf (linkFields pair) ≡ Link (pair .0) (pair .1)
-  unfolding lineOf same
-  link-back small = rw (link-parts, decimal-number (pair .0) (small .0), decimal-number (pair .1) (small .1), decimal-value (pair .0), decimal-value (pair .1))
+record-said : (line : Line) → Sayable line → isRecord line ≡ true
+record-said NoRecord small = absurd small
+record-said (Link u v) small = refl
 
 -- without their line feeds, and what stands after the last of them
-linkPieces : List (ℕ × ℕ) → List (List ℕ)
-linkPieces [] = [] ∷ []
-linkPieces (pair ∷ links) = linkFields pair ∷ linkPieces links
+linePieces : List Line → List (List ℕ)
+linePieces [] = [] ∷ []
+linePieces (line ∷ lines) = lineFields line ∷ linePieces lines
 
-lines-parted : (links : List (ℕ × ℕ)) → pieces lineFeed (linkLines links) ≡ linkPieces links
-unfolding linkLines linkPieces pieces
-lines-parted [] = refl
-lines-parted (pair ∷ links) =
-    ap (pieces lineFeed) (append-assoc (linkFields pair) (lineFeed ∷ []) (linkLines links)) ∙ piece-then lineFeed (linkFields pair) (linkLines links) (link-fields-free pair)
-    ∙ ap (λ (p : List (List ℕ)). linkFields pair ∷ p) (lines-parted links)
+lines-parted : (lines : List Line) → All Sayable lines → pieces lineFeed (linesText lines) ≡ linePieces lines
+unfolding linesText linePieces pieces
+lines-parted [] small = refl
+lines-parted (line ∷ lines) small =
+    ap (pieces lineFeed) (append-assoc (lineFields line) (lineFeed ∷ []) (linesText lines)) ∙ piece-then lineFeed (lineFields line) (linesText lines) (line-fields-free line (small .0))
+    ∙ ap (λ (p : List (List ℕ)). lineFields line ∷ p) (lines-parted lines (small .1))
 
 -- there is a piece after each line
-right-then : (number : ℕ) (line : List ℕ) (links : List (ℕ × ℕ)) → rightShape number line ≡ true → wrongLine number (line ∷ linkPieces links) ≡ wrongLine (suc number) (linkPieces links)
-unfolding wrongLine linkPieces
-right-then number line [] right = rw right
-right-then number line (pair ∷ links) right = rw right
+right-then : (number : ℕ) (first : List ℕ) (lines : List Line) → rightShape number first ≡ true → wrongLine number (first ∷ linePieces lines) ≡ wrongLine (suc number) (linePieces lines)
+unfolding wrongLine linePieces
+right-then number first [] right = rw right
+right-then number first (line ∷ lines) right = rw right
 
-lines-right : (number : ℕ) (links : List (ℕ × ℕ)) → 1 < number → All Sayable links → wrongLine number (linkPieces links) ≡ 0
-unfolding wrongLine linkPieces
+lines-right : (number : ℕ) (lines : List Line) → 1 < number → All Sayable lines → wrongLine number (linePieces lines) ≡ 0
+unfolding wrongLine linePieces
 lines-right number [] p small = rw (ne-eqb number 1 (λ e. omega arith))
-lines-right number (pair ∷ links) p small =
-    right-then number (linkFields pair) links (rw (ne-eqb number 1 (λ e. omega arith), link-back pair (small .0)))
-    ∙ lines-right (suc number) links (omega arith) (small .1)
+lines-right number (line ∷ lines) p small =
+    right-then number (lineFields line) lines (rw (ne-eqb number 1 (λ e. omega arith), line-back line (small .0), record-said line (small .0)))
+    ∙ lines-right (suc number) lines (omega arith) (small .1)
 
 -- a line each
-said-then : (line : List ℕ) (links : List (ℕ × ℕ)) → linesOf (line ∷ linkPieces links) ≡ lineOf line ∷ linesOf (linkPieces links)
-unfolding linesOf linkPieces
-said-then line [] = refl
-said-then line (pair ∷ links) = refl
+said-then : (first : List ℕ) (lines : List Line) → linesOf (first ∷ linePieces lines) ≡ lineOf first ∷ linesOf (linePieces lines)
+unfolding linesOf linePieces
+said-then first [] = refl
+said-then first (line ∷ lines) = refl
 
-lines-back : (links : List (ℕ × ℕ)) → All Sayable links → linesOf (linkPieces links) ≡ saying links
-unfolding linesOf linkPieces
+lines-back : (lines : List Line) → All Sayable lines → linesOf (linePieces lines) ≡ lines
+unfolding linesOf linePieces
 lines-back [] small = refl
-lines-back (pair ∷ links) small = said-then (linkFields pair) links ∙ rw (link-back pair (small .0), lines-back links (small .1))
+lines-back (line ∷ lines) small = said-then (lineFields line) lines ∙ rw (line-back line (small .0), lines-back lines (small .1))
 
 -- ---- the whole text
 
-pub read-back : (capture n S T k : ℕ) (links : List (ℕ × ℕ)) → capture ≤ mostNumber → n ≤ mostNumber → S ≤ mostNumber → T ≤ mostNumber → k ≤ mostNumber → All Sayable links
-    → ReadBack (captureText capture n S T k links) capture n S T k links
-read-back capture n S T k links a b c d e small =
+pub read-back : (capture n S T k : ℕ) (lines : List Line) → capture ≤ mostNumber → n ≤ mostNumber → S ≤ mostNumber → T ≤ mostNumber → k ≤ mostNumber → All Sayable lines
+    → ReadBack (captureText capture n S T k lines) capture n S T k lines
+read-back capture n S T k lines a b c d e small =
     record {
-      right-shape = ap (wrongLine 1) parted ∙ right-then 1 (netFields capture n S T k) links (rw (head-back capture n S T k a b c d e)) ∙ lines-right 2 links (omega arith) small;
-      head = ap (λ (lines : List (List ℕ)). headOf (getD lines 0 [])) parted ∙ head-back capture n S T k a b c d e;
-      others = ap (λ (lines : List (List ℕ)). linesOf (tail lines)) parted ∙ lines-back links small;
+      right-shape = ap (wrongLine 1) parted ∙ right-then 1 (netFields capture n S T k) lines (rw (head-back capture n S T k a b c d e)) ∙ lines-right 2 lines (omega arith) small;
+      head = ap (λ (p : List (List ℕ)). headOf (getD p 0 [])) parted ∙ head-back capture n S T k a b c d e;
+      others = ap (λ (p : List (List ℕ)). linesOf (tail p)) parted ∙ lines-back lines small;
     }
   where
-    parted : pieces lineFeed (captureText capture n S T k links) ≡ netFields capture n S T k ∷ linkPieces links
+    parted : pieces lineFeed (captureText capture n S T k lines) ≡ netFields capture n S T k ∷ linePieces lines
     parted =
-        ap (pieces lineFeed) (append-assoc (netFields capture n S T k) (lineFeed ∷ []) (linkLines links))
-        ∙ piece-then lineFeed (netFields capture n S T k) (linkLines links) (net-fields-free capture n S T k)
-        ∙ ap (λ (p : List (List ℕ)). netFields capture n S T k ∷ p) (lines-parted links)
+        ap (pieces lineFeed) (append-assoc (netFields capture n S T k) (lineFeed ∷ []) (linesText lines))
+        ∙ piece-then lineFeed (netFields capture n S T k) (linesText lines) (net-fields-free capture n S T k)
+        ∙ ap (λ (p : List (List ℕ)). netFields capture n S T k ∷ p) (lines-parted lines small)

@@ -1,70 +1,38 @@
--- The table that lines fill holds a 1 in both cells of each link, whatever their order. Assumes nothing.
-use mathlib.Core.Path.{_≡_, refl, sym, ap, _∙_}
+-- The table that lines fill holds a 1 in the cells of each of them, whatever their order. Assumes nothing.
+use mathlib.Core.Path.{_≡_, refl, sym, ap, _∙_, subst}
 use mathlib.Core.Bool.{Bool, true, false, _||_, cond}
 use mathlib.Core.List.{List, [], _∷_, List·Memᴰ, List·Memᴰ·head, List·Memᴰ·tail}
 use mathlib.Core.Logic.{_⊎_, inl, inr}
-use Prim.Native.Nat.{ℕ, _+_, _*_, _<_}
-use native.Mathlib.Decide.{ℕ-discrete}
+use Prim.Native.Nat.{ℕ, _*_, _<_}
 use native.Mathlib.Omega.{arith}
-use lib.Dec.{eqb}
-use lib.ListN.{length, getD, set, replicate, length-set, length-replicate, getD-replicate}
-use lib.Seq.{getD-set-same, getD-set-other, ext-getD}
-use borrow.Author.Tests.{eq-eqb, ne-eqb}
+use lib.ListN.{length, getD, replicate, length-replicate, getD-replicate}
+use lib.Seq.{ext-getD}
+use Rattle.basics.specs.Lists.{All}
 use Rattle.basics.proofs.Bools.{clash, both-ways, or-left, or-right, or-cases}
 use Rattle.captures.specs.Capture.{isRecord, withLine, tableWith, tableOf}
+use Rattle.captures.proofs.Cells.{isCell, cond-or, with-cell, with-long}
 use Rattle.captures.specs.declared.Line.{Line}
 use Rattle.captures.specs.declared.Line.the-variants.{Link, NoRecord}
 
--- ---- the cells of a line
+-- ---- the cells of the lines
 
--- the place is one of the two cells of the line's link
-abbrev pub isCell : ℕ → ℕ → Line → Bool
-isCell n place (Link u v) = eqb place (v * n + u) || eqb place (u * n + v)
-isCell n place NoRecord = false
-
--- the place is a cell of one of the lines
+-- the place is a cell of one of them
 abbrev pub inCells : ℕ → ℕ → List Line → Bool
 inCells n place [] = false
 inCells n place (line ∷ lines) = isCell n place line || inCells n place lines
 
-linked-cell : (n : ℕ) (table : List ℕ) (line : Line) (place : ℕ) → place < length table → getD (withLine n table line) place 0 ≡ cond (isCell n place line) 1 (getD table place 0)
-linked-cell n table NoRecord place p = refl
-linked-cell n table (Link u v) place p = go (ℕ-discrete place second) (ℕ-discrete place first)
-  where
-    first : ℕ
-    first = u * n + v
-
-    second : ℕ
-    second = v * n + u
-
-    go : Dec (place ≡ second) → Dec (place ≡ first) → getD (set (set table first 1) second 1) place 0 ≡ cond (eqb place second || eqb place first) 1 (getD table place 0)
-    go (yes e) f = rw (← e, eq-eqb place place refl) (getD-set-same (set table first 1) place 1 0 (simp length-set p))
-    go (no d) (yes e) =
-        rw (ne-eqb place second d, eq-eqb place first e) (getD-set-other (set table first 1) second place 1 0 d ∙ rw (← e) (getD-set-same table place 1 0 p))
-    go (no d) (no c) =
-        rw (ne-eqb place second d, ne-eqb place first c) (getD-set-other (set table first 1) second place 1 0 d ∙ getD-set-other table first place 1 0 c)
-
-line-long : (n : ℕ) (table : List ℕ) (line : Line) → length (withLine n table line) ≡ length table
-line-long n table NoRecord = refl
-line-long n table (Link u v) = simp length-set
-
-cond-or : (a b : Bool) (x y : ℕ) → cond b x (cond a x y) ≡ cond (a || b) x y
-cond-or true true x y = refl
-cond-or true false x y = refl
-cond-or false b x y = refl
-
 table-long : (n : ℕ) (table : List ℕ) (lines : List Line) → length (tableWith n table lines) ≡ length table
 unfolding tableWith
 table-long n table [] = refl
-table-long n table (line ∷ lines) = table-long n (withLine n table line) lines ∙ line-long n table line
+table-long n table (line ∷ lines) = table-long n (withLine n table line) lines ∙ with-long n table line
 
 table-cell : (n : ℕ) (table : List ℕ) (lines : List Line) (place : ℕ) → place < length table
     → getD (tableWith n table lines) place 0 ≡ cond (inCells n place lines) 1 (getD table place 0)
 unfolding tableWith
 table-cell n table [] place p = refl
 table-cell n table (line ∷ lines) place p =
-    table-cell n (withLine n table line) lines place (omega (arith, line-long n table line))
-    ∙ ap (cond (inCells n place lines) 1) (linked-cell n table line place p)
+    table-cell n (withLine n table line) lines place (omega (arith, with-long n table line))
+    ∙ ap (cond (inCells n place lines) 1) (with-cell n table line place p)
     ∙ cond-or (isCell n place line) (inCells n place lines) 1 (getD table place 0)
 
 -- ---- the table of some lines
@@ -83,21 +51,37 @@ table-of-cell n lines place p =
 abbrev pub Among : List Line → List Line → Type 0
 Among lines lines′ = (line : Line) → List·Memᴰ line lines → isRecord line ≡ true → List·Memᴰ line lines′
 
+-- what each of them has, one of them has
+pub all-there : (P : Line → Type 0) (lines : List Line) → All P lines → (line : Line) → List·Memᴰ line lines → P line
+all-there P (other ∷ lines) all line (List·Memᴰ·head e) = subst P (sym e) (all .0)
+all-there P (other ∷ lines) all line (List·Memᴰ·tail m) = all-there P lines (all .1) line m
+
+-- a cell of the lines is a cell of one of them
+pub record CellIn (n place : ℕ) (lines : List Line) : Type 0 where
+  pub line : Line
+  pub there : List·Memᴰ line lines
+  pub is : isCell n place line ≡ true
+
+pub cell-in : (n place : ℕ) (lines : List Line) → inCells n place lines ≡ true → CellIn n place lines
+cell-in n place [] c = clash c refl
+cell-in n place (line ∷ lines) c = go (or-cases (isCell n place line) (inCells n place lines) c) (cell-in n place lines)
+  where
+    go : (isCell n place line ≡ true) ⊎ (inCells n place lines ≡ true) → (inCells n place lines ≡ true → CellIn n place lines) → CellIn n place (line ∷ lines)
+    go (inl h) rest = record { line = line; there = List·Memᴰ·head refl; is = h }
+    go (inr h) rest = let w = rest h in record { line = w .line; there = List·Memᴰ·tail (w .there); is = w .is }
+
 pub cell-of : (n place : ℕ) (line : Line) (lines : List Line) → List·Memᴰ line lines → isCell n place line ≡ true → inCells n place lines ≡ true
 cell-of n place line (other ∷ lines) (List·Memᴰ·head e) c = or-left (isCell n place other) (inCells n place lines) (rw e at c)
 cell-of n place line (other ∷ lines) (List·Memᴰ·tail m) c = or-right (isCell n place other) (inCells n place lines) (cell-of n place line lines m c)
 
-cell-record : (n place : ℕ) (line : Line) → isCell n place line ≡ true → isRecord line ≡ true
+pub cell-record : (n place : ℕ) (line : Line) → isCell n place line ≡ true → isRecord line ≡ true
 cell-record n place (Link u v) c = refl
 cell-record n place NoRecord c = c
 
 cells-kept : (n place : ℕ) (lines lines′ : List Line) → Among lines lines′ → inCells n place lines ≡ true → inCells n place lines′ ≡ true
-cells-kept n place [] lines′ keep c = clash c refl
-cells-kept n place (line ∷ lines) lines′ keep c = go (or-cases (isCell n place line) (inCells n place lines) c) (cells-kept n place lines lines′ (λ other m. keep other (List·Memᴰ·tail m)))
-  where
-    go : (isCell n place line ≡ true) ⊎ (inCells n place lines ≡ true) → (inCells n place lines ≡ true → inCells n place lines′ ≡ true) → inCells n place lines′ ≡ true
-    go (inl h) rest = cell-of n place line lines′ (keep line (List·Memᴰ·head refl) (cell-record n place line h)) h
-    go (inr h) rest = rest h
+cells-kept n place lines lines′ keep c =
+    let w = cell-in n place lines c in
+    cell-of n place (w .line) lines′ (keep (w .line) (w .there) (cell-record n place (w .line) (w .is))) (w .is)
 
 -- fill the same table
 pub same-table : (n : ℕ) (lines lines′ : List Line) → Among lines lines′ → Among lines′ lines → tableOf n lines ≡ tableOf n lines′

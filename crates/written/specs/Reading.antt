@@ -10,8 +10,9 @@ use Rattle.captures.specs.Words.{lineFeed}
 use Rattle.captures.specs.Text.{pieces, mostNumber}
 use Rattle.captures.specs.Capture.{headOf, wrongLine, linesOf, faultLine, tableOf}
 use Rattle.captures.specs.declared.Head.the-variants.{Net}
+use Rattle.captures.specs.declared.Line.{Line}
+use Rattle.captures.specs.declared.Line.the-variants.{Link, NoRecord}
 use Rattle.text_survey.specs.Survey.{mostBytes}
-use Rattle.written.specs.Writing.{saying}
 
 -- the lines of a text; what stands after the last line feed is the last of them
 abbrev pub firstLine : List ℕ → List ℕ
@@ -22,15 +23,16 @@ otherLines text = tail (pieces lineFeed text)
 
 -- ---- reading what was written
 
--- a text may say these radios
-abbrev pub Sayable : ℕ × ℕ → Type 0
-Sayable pair = (pair .0 ≤ mostNumber) × (pair .1 ≤ mostNumber)
+-- a text may say this
+abbrev pub Sayable : Line → Type 0
+Sayable (Link u v) = (u ≤ mostNumber) × (v ≤ mostNumber)
+Sayable NoRecord = ⊥
 
--- the text has the right shape, and says these numbers and these links
-pub record ReadBack (text : List ℕ) (capture n S T k : ℕ) (links : List (ℕ × ℕ)) : Type 0 where
+-- the text has the right shape, and its lines say these numbers and these things
+pub record ReadBack (text : List ℕ) (capture n S T k : ℕ) (lines : List Line) : Type 0 where
   pub right-shape : wrongLine 1 (pieces lineFeed text) ≡ 0
   pub head : headOf (firstLine text) ≡ Net capture n S T k
-  pub others : linesOf (otherLines text) ≡ saying links
+  pub others : linesOf (otherLines text) ≡ lines
 
 -- a map that no refusal 1 to 3 is against
 pub record WritableMap (n : ℕ) (table : List ℕ) : Type 0 where
@@ -39,10 +41,10 @@ pub record WritableMap (n : ℕ) (table : List ℕ) : Type 0 where
   pub long : length table ≡ n * n
   pub sound : finding table n ≡ Sound
 
--- no line of a link is at fault, and they fill the table
-pub record Fills (n : ℕ) (links : List (ℕ × ℕ)) (table : List ℕ) : Type 0 where
-  pub all-good : faultLine n 2 [] (saying links) ≡ 0
-  pub table-is : tableOf n (saying links) ≡ table
+-- none of the lines is at fault, and they fill the table
+pub record Fills (n : ℕ) (lines : List Line) (table : List ℕ) : Type 0 where
+  pub all-good : faultLine n 2 [] lines ≡ 0
+  pub table-is : tableOf n lines ≡ table
 
 -- ---- two texts
 

@@ -1,13 +1,14 @@
--- A capture in writing: the text that "The sheet" of document 01 asks for, from its numbers and its links.
-use mathlib.Core.Bool.{Bool, _&&_, cond}
-use mathlib.Core.List.{List, [], _∷_, _++_, map}
+-- A capture in writing: the text that "The sheet" of document 01 asks for, from its numbers and what its lines say.
+use mathlib.Core.Bool.{cond}
+use mathlib.Core.List.{List, [], _∷_, _++_}
 use Prim.Native.Nat.{ℕ, zero, suc, _*_, _/_, _%_}
 use lib.Dec.{eqb, ltb}
 use lib.ListN.{getD}
 use Rattle.captures.specs.Words.{net, link}
 use Rattle.captures.specs.Text.{decimal}
+use Rattle.captures.specs.Capture.{isRecord}
 use Rattle.captures.specs.declared.Line.{Line}
-use Rattle.captures.specs.declared.Line.the-variants.{Link}
+use Rattle.captures.specs.declared.Line.the-variants.{Link, NoRecord}
 use Rattle.sheet_lines.specs.Lines.{field, ended}
 
 -- ---- lines
@@ -20,35 +21,36 @@ abbrev pub netLine : ℕ → ℕ → ℕ → ℕ → ℕ → List ℕ
 netLine capture n S T k = netFields capture n S T k ++ ended []
 
 -- every other line: link and two radios
-abbrev pub linkFields : ℕ × ℕ → List ℕ
-linkFields pair = link ++ (field (decimal (pair .0)) ++ field (decimal (pair .1)))
+abbrev pub lineFields : Line → List ℕ
+lineFields (Link u v) = link ++ (field (decimal u) ++ field (decimal v))
+lineFields NoRecord = []
 
-abbrev pub linkLine : ℕ × ℕ → List ℕ
-linkLine pair = linkFields pair ++ ended []
+abbrev pub lineText : Line → List ℕ
+lineText line = lineFields line ++ ended []
 
-unfoldable pub linkLines : List (ℕ × ℕ) → List ℕ
-linkLines [] = []
-linkLines (pair ∷ links) = linkLine pair ++ linkLines links
+unfoldable pub linesText : List Line → List ℕ
+linesText [] = []
+linesText (line ∷ lines) = lineText line ++ linesText lines
 
--- what these lines say
-abbrev pub saying : List (ℕ × ℕ) → List Line
-saying links = map (λ pair. Link (pair .0) (pair .1)) links
+abbrev pub captureText : ℕ → ℕ → ℕ → ℕ → ℕ → List Line → List ℕ
+captureText capture n S T k lines = netLine capture n S T k ++ linesText lines
 
-abbrev pub captureText : ℕ → ℕ → ℕ → ℕ → ℕ → List (ℕ × ℕ) → List ℕ
-captureText capture n S T k links = netLine capture n S T k ++ linkLines links
+-- ---- the lines of a table
 
--- ---- the links of a table
+-- what a 1 in row u and column v says: above the diagonal a link. Below it the mirror cell has said so
+abbrev pub oneSays : ℕ → ℕ → Line
+oneSays u v = cond (ltb u v) (Link u v) NoRecord
 
--- the place of row u and column v is u·n+v: it is above the diagonal and its cell is 1
-abbrev pub isLinkAt : ℕ → List ℕ → ℕ → Bool
-isLinkAt n table place = ltb (place / n) (place % n) && eqb (getD table place 0) 1
+-- what the cell at a place says; that of row u and column v is at u·n+v
+abbrev pub lineAt : ℕ → List ℕ → ℕ → Line
+lineAt n table place = cond (eqb (getD table place 0) 1) (oneSays (place / n) (place % n)) NoRecord
 
--- the links of so many places, from this one on
-unfoldable pub linksFrom : ℕ → List ℕ → ℕ → ℕ → List (ℕ × ℕ)
-linksFrom n table place zero = []
-linksFrom n table place (suc more) =
-    cond (isLinkAt n table place) ((place / n, place % n) ∷ linksFrom n table (suc place) more) (linksFrom n table (suc place) more)
+-- what the cells of so many places say, from this one on
+unfoldable pub cellLines : ℕ → List ℕ → ℕ → ℕ → List Line
+cellLines n table place zero = []
+cellLines n table place (suc more) =
+    cond (isRecord (lineAt n table place)) (lineAt n table place ∷ cellLines n table (suc place) more) (cellLines n table (suc place) more)
 
--- all pairs (u , v) with u < v whose cell is 1, in row order
-abbrev pub linksIn : ℕ → List ℕ → List (ℕ × ℕ)
-linksIn n table = linksFrom n table 0 (n * n)
+-- what all cells say, in row order
+abbrev pub linesIn : ℕ → List ℕ → List Line
+linesIn n table = cellLines n table 0 (n * n)
