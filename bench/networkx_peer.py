@@ -34,6 +34,9 @@ def number_of_paths(question):
         for upper in range(lower + 1, radios):
             if table[lower * radios + upper]:
                 graph.add_edge(lower, upper)
+    # No path leads over a handheld, which passes nothing on.
+    inner = set(range(radios)) - {source, destination}
+    graph.remove_nodes_from(radio for radio in inner if table[radio * radios + radio])
     try:
         return len(list(networkx.node_disjoint_paths(graph, source, destination, cutoff=wanted)))
     except networkx.NetworkXNoPath:

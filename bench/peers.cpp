@@ -33,7 +33,14 @@ struct Question {
     int radios, source, destination, wanted;
     std::vector<std::uint8_t> table;
 
-    bool linked(int one, int other) const { return table[one * radios + other] == 1; }
+    bool linked(int one, int other) const {
+        return one != other && table[one * radios + other] == 1;
+    }
+
+    // Neither S nor T, and a handheld, which passes nothing on: no path leads over it.
+    bool is_dead_end(int radio) const {
+        return radio != source && radio != destination && table[radio * radios + radio] == 1;
+    }
 };
 
 using Path = std::vector<int>;
@@ -51,7 +58,8 @@ struct SplitGraph {
         }
         for (int from = 0; from < question.radios; from++) {
             if (from == question.destination) continue;
-            if (from != question.source) graph.addArc(in_half[from], out_half[from]);
+            if (from != question.source && !question.is_dead_end(from))
+                graph.addArc(in_half[from], out_half[from]);
             for (int to = 0; to < question.radios; to++) {
                 if (to != question.source && question.linked(from, to))
                     graph.addArc(out_half[from], in_half[to]);
@@ -120,6 +128,7 @@ __attribute__((noinline)) std::size_t query_igraph(const Question &question) {
     for (int upper = 0; upper < question.radios; upper++) {
         for (int lower = 0; lower < upper; lower++) {
             if (!question.linked(lower, upper)) continue;
+            if (question.is_dead_end(lower) || question.is_dead_end(upper)) continue;
             igraph_vector_int_push_back(&ends, lower);
             igraph_vector_int_push_back(&ends, upper);
         }

@@ -71,9 +71,6 @@ fn judge(asked: &Asked, lent: &Lent) -> Result<(), Outcome> {
             if cell > 1 {
                 return Err(Outcome::refused(3, place));
             }
-            if row == column && cell != 0 {
-                return Err(Outcome::refused(12, place));
-            }
             if cell != table[column * n + row] {
                 return Err(Outcome::refused(13, place));
             }
@@ -91,9 +88,10 @@ fn judge(asked: &Asked, lent: &Lent) -> Result<(), Outcome> {
     if k == 0 || k > MOST_WANTED {
         return refuse(6);
     }
-    let degree = |radio: usize| (0..n).filter(|other| table[radio * n + other] == 1).count();
-    let direct = usize::from(table[s * n + t] == 1);
-    let steps = 2 * links + direct + n - 2 - degree(s) - degree(t);
+    let degree = |radio: usize| (0..n).filter(|&other| asked.linked(radio, other)).count();
+    let direct = usize::from(asked.linked(s, t));
+    let forwarding = (0..n).filter(|&radio| asked.forwards(radio)).count();
+    let steps = 2 * links + direct + forwarding - degree(s) - degree(t);
     if lent.log.len() < 4 * (2 * k + 1) * steps {
         return refuse(7);
     }
@@ -113,22 +111,30 @@ struct Search<'call> {
     round: usize,
 }
 
-impl Search<'_> {
+impl Asked<'_> {
     fn linked(&self, one: usize, other: usize) -> bool {
-        self.asked.table[one * self.asked.radios + other] == 1
+        one != other && self.table[one * self.radios + other] == 1
     }
 
+    /// A handheld, whose own cell is 1, has no step between its halves.
+    fn forwards(&self, radio: usize) -> bool {
+        let is_end = radio == self.source || radio == self.destination;
+        !is_end && self.table[radio * self.radios + radio] == 0
+    }
+}
+
+impl Search<'_> {
     /// Whether half `from` can walk to the other kind of half of `radio`, now.
     fn can_walk(&self, from: usize, radio: usize) -> bool {
         let (s, t) = (self.asked.source, self.asked.destination);
         let own = from / 2;
         let forwards = (from % 2 == 1) != (own == radio);
         let exists = if own == radio {
-            own != s && own != t
+            self.asked.forwards(own)
         } else if from % 2 == 1 {
-            radio != s && self.linked(own, radio)
+            radio != s && self.asked.linked(own, radio)
         } else {
-            radio != t && self.linked(own, radio)
+            radio != t && self.asked.linked(own, radio)
         };
         let marked = if from % 2 == 1 {
             self.marked[own][radio]

@@ -2,10 +2,10 @@
 //!
 //! Sets of radios are 64-bit numbers. The marks are a flow, so a radio on a marked way has one
 //! radio before it and one after it; these are kept instead of a table of marks. An in half then
-//! has exactly one step to walk, so only out halves wait on the stack, and nearly all messages come
-//! in twos, which are written by one store. The records are made in one pass over the path list,
-//! which is judged on the way. The log, the paths, the cut, the zeros, the records and the refusals
-//! are those of the documents, byte for byte.
+//! has one step to walk, or none if it is a handheld's, so only out halves wait on the stack, and
+//! nearly all messages come in twos, which are written by one store. The records are made in one
+//! pass over the path list, which is judged on the way. The log, the paths, the cut, the zeros, the
+//! records and the refusals are those of the documents, byte for byte.
 
 mod exported;
 
@@ -45,26 +45,24 @@ fn out_half(radio: usize) -> usize {
     2 * radio + 1
 }
 
+/// The links of each radio, and which radios are handhelds.
+struct Map {
+    rows: [Radios; MOST_RADIOS],
+    handhelds: Radios,
+}
+
 pub fn survey(asked: &Asked, lent: Lent) -> Outcome {
-    let mut rows = [0; MOST_RADIOS];
-    if let Err(refused) = judge(asked, &lent, &mut rows) {
+    let mut map = Map {
+        rows: [0; MOST_RADIOS],
+        handhelds: 0,
+    };
+    if let Err(refused) = judge(asked, &lent, &mut map) {
         lent.log.fill(0);
         lent.paths.fill(0);
         lent.cut.fill(0);
         return refused;
     }
-    let mut search = Search {
-        rows,
-        source: asked.source,
-        destination: asked.destination,
-        first_radios: 0,
-        inside_marked: 0,
-        before: [0; MOST_RADIOS],
-        after: [0; MOST_RADIOS],
-        entered_in: 0,
-        entered_out: 0,
-        stack: [NOBODY; MOST_RADIOS],
-    };
+    let mut search = Search::on(asked, map);
     let mut log = LogWriter {
         rest: lent.log,
         messages: 0,
@@ -90,8 +88,13 @@ pub fn survey(asked: &Asked, lent: Lent) -> Outcome {
     }
 }
 
-/// Refusals 1, 2, the first bad cell's and 4 to 8, in this order; fills the rows of links.
-fn judge(asked: &Asked, lent: &Lent, rows: &mut [Radios; MOST_RADIOS]) -> Result<(), Outcome> {
+/// As S or T a handheld is an ordinary radio.
+fn inner_handhelds(asked: &Asked, map: &Map) -> Radios {
+    map.handhelds & !only(asked.source) & !only(asked.destination)
+}
+
+/// Refusals 1, 2, the first bad cell's and 4 to 8, in this order; fills the map.
+fn judge(asked: &Asked, lent: &Lent, map: &mut Map) -> Result<(), Outcome> {
     let refuse = |number| Err(Outcome::refused(number, 0));
     let (radios, wanted) = (asked.radios, asked.wanted);
     if !(FEWEST_RADIOS..=MOST_RADIOS).contains(&radios) {
@@ -100,7 +103,7 @@ fn judge(asked: &Asked, lent: &Lent, rows: &mut [Radios; MOST_RADIOS]) -> Result
     if asked.table.len() != radios * radios {
         return refuse(2);
     }
-    let Some(links) = read_rows(radios, asked.table, rows) else {
+    let Some(links) = read_map(radios, asked.table, map) else {
         return Err(first_bad_cell(radios, asked.table));
     };
     if links > MOST_LINKS {
@@ -113,9 +116,11 @@ fn judge(asked: &Asked, lent: &Lent, rows: &mut [Radios; MOST_RADIOS]) -> Result
     if wanted == 0 || wanted > MOST_WANTED {
         return refuse(6);
     }
+    let rows = &map.rows;
     let at_ends = rows[source].count_ones() + rows[destination].count_ones();
     let direct = usize::from(has(rows[source], destination));
-    let steps = 2 * links + direct + radios - 2 - at_ends as usize;
+    let missing = at_ends + inner_handhelds(asked, map).count_ones();
+    let steps = 2 * links + direct + radios - 2 - missing as usize;
     if lent.log.len() < 4 * (2 * wanted + 1) * steps {
         return refuse(7);
     }
@@ -125,11 +130,11 @@ fn judge(asked: &Asked, lent: &Lent, rows: &mut [Radios; MOST_RADIOS]) -> Result
     Ok(())
 }
 
-/// Fills the rows and counts the links; nothing where any cell is bad.
-fn read_rows(radios: usize, table: &[u8], rows: &mut [Radios; MOST_RADIOS]) -> Option<usize> {
+/// Fills the map and counts the links; nothing where any cell is bad.
+fn read_map(radios: usize, table: &[u8], map: &mut Map) -> Option<usize> {
     let mut seen = 0;
     let mut both_ways = 0;
-    for (row, cells) in rows.iter_mut().zip(table.chunks_exact(radios)) {
+    for (row, cells) in map.rows.iter_mut().zip(table.chunks_exact(radios)) {
         let (eights, rest) = cells.as_chunks::<8>();
         let mut set = 0;
         for (place, eight) in eights.iter().enumerate() {
@@ -145,7 +150,8 @@ fn read_rows(radios: usize, table: &[u8], rows: &mut [Radios; MOST_RADIOS]) -> O
         both_ways += set.count_ones() as usize;
     }
     let only_ones_and_zeros = seen & !0x0101_0101_0101_0101 == 0;
-    let links = mirrored_links(radios, rows)?;
+    let links = mirrored_links(radios, map)?;
+    both_ways -= part_handhelds(map);
     // Each link above the diagonal has its mirror, so equal numbers leave no cell without one.
     (only_ones_and_zeros && both_ways == 2 * links).then_some(links)
 }
@@ -156,12 +162,14 @@ fn gather(eight: u64) -> u64 {
 }
 
 /// The number of cells above the diagonal that are set; nothing where one of them has no mirror.
-fn mirrored_links(radios: usize, rows: &[Radios; MOST_RADIOS]) -> Option<usize> {
+/// Those on the diagonal are the handhelds.
+fn mirrored_links(radios: usize, map: &mut Map) -> Option<usize> {
     let mut links = 0;
-    for (row, &set) in rows.iter().enumerate().take(radios) {
+    for (row, &set) in map.rows.iter().enumerate().take(radios) {
+        map.handhelds |= set & only(row);
         let mut above = set & !(only(row) << 1).wrapping_sub(1);
         while above != 0 {
-            if !has(rows[lowest(above)], row) {
+            if !has(map.rows[lowest(above)], row) {
                 return None;
             }
             above &= above - 1;
@@ -171,7 +179,17 @@ fn mirrored_links(radios: usize, rows: &[Radios; MOST_RADIOS]) -> Option<usize> 
     Some(links)
 }
 
-/// Refusal 3, 12 or 13, only after it is known that there is a bad cell.
+/// Takes the handhelds out of the rows, where they are no links, and tells their number.
+fn part_handhelds(map: &mut Map) -> usize {
+    let mut left = map.handhelds;
+    while left != 0 {
+        map.rows[lowest(left)] &= !only(lowest(left));
+        left &= left - 1;
+    }
+    map.handhelds.count_ones() as usize
+}
+
+/// Refusal 3 or 13, only after it is known that there is a bad cell.
 fn first_bad_cell(radios: usize, table: &[u8]) -> Outcome {
     for row in 0..radios {
         for column in row..radios {
@@ -179,9 +197,6 @@ fn first_bad_cell(radios: usize, table: &[u8]) -> Outcome {
             let (cell, mirror) = (table[place], table[column * radios + row]);
             if cell > 1 {
                 return Outcome::refused(3, place);
-            }
-            if row == column && cell != 0 {
-                return Outcome::refused(12, place);
             }
             if cell != mirror {
                 return Outcome::refused(13, place);
@@ -267,6 +282,8 @@ const NOBODY: Waiting = Waiting {
 
 struct Search {
     rows: [Radios; MOST_RADIOS],
+    /// Their in halves send every token back at once, as if they had been entered before.
+    dead_ends: Radios,
     source: usize,
     destination: usize,
     /// The radios with a marked step from S.
@@ -281,6 +298,22 @@ struct Search {
 }
 
 impl Search {
+    fn on(asked: &Asked, map: Map) -> Search {
+        Search {
+            dead_ends: inner_handhelds(asked, &map),
+            rows: map.rows,
+            source: asked.source,
+            destination: asked.destination,
+            first_radios: 0,
+            inside_marked: 0,
+            before: [0; MOST_RADIOS],
+            after: [0; MOST_RADIOS],
+            entered_in: 0,
+            entered_out: 0,
+            stack: [NOBODY; MOST_RADIOS],
+        }
+    }
+
     /// Rule 3 for an out half: the links it can walk, and whether its own step is marked.
     fn waiting(&self, radio: usize, asker: usize) -> Waiting {
         let linked = self.rows[radio] & !only(self.source);
@@ -302,7 +335,7 @@ impl Search {
 
     /// One round; true if it found a path.
     fn play_round(&mut self, log: &mut LogWriter) -> bool {
-        self.entered_in = 0;
+        self.entered_in = self.dead_ends;
         self.entered_out = only(self.source);
         let mut depth = 0;
         let mut here = self.waiting(self.source, self.source);

@@ -10,17 +10,28 @@ pub struct Question {
 }
 
 impl Question {
-    fn degree(&self, radio: usize) -> usize {
-        let row = &self.table[radio * self.radios..][..self.radios];
-        row.iter().filter(|&&cell| cell == 1).count()
+    fn cell(&self, row: usize, column: usize) -> usize {
+        usize::from(self.table[row * self.radios + column])
     }
 
-    /// Document 01's A.
+    fn degree(&self, radio: usize) -> usize {
+        let others = (0..self.radios).filter(|&other| other != radio);
+        others.map(|other| self.cell(radio, other)).sum()
+    }
+
+    /// A cell on the diagonal is 1 for a handheld.
+    fn inner_handhelds(&self) -> usize {
+        let inner =
+            (0..self.radios).filter(|&radio| radio != self.source && radio != self.destination);
+        inner.map(|radio| self.cell(radio, radio)).sum()
+    }
+
+    /// The A of the documents.
     pub fn number_of_steps(&self) -> usize {
         let both_ways: usize = (0..self.radios).map(|radio| self.degree(radio)).sum();
-        let direct = self.table[self.source * self.radios + self.destination];
+        let direct = self.cell(self.source, self.destination);
         let at_ends = self.degree(self.source) + self.degree(self.destination);
-        both_ways + usize::from(direct) + self.radios - 2 - at_ends
+        both_ways + direct + self.radios - 2 - self.inner_handhelds() - at_ends
     }
 
     /// What refusals 7 and 8 ask for: the lengths of log, path list and cut list.

@@ -12,7 +12,7 @@
 #define FOGSIGNALLER_H
 
 /* The version of the header, the library, the command and the Rust package: one number for all. */
-#define FOG_VERSION "2.0.0"
+#define FOG_VERSION "3.0.0"
 
 #include <stddef.h>
 #include <stdint.h>
@@ -24,19 +24,19 @@ extern "C" {
 /* Why a call was refused. They are tried in this order and the first that holds is given: those up
  * to FOG_LIST_TOO_SHORT by fog_survey, and 1, 20 and 21 by fog_routes.
  *
- * FOG_CELL_VALUE, FOG_CELL_DIAGONAL and FOG_CELL_MIRROR say what is wrong with the first bad cell
- * of the table in row order. place is that cell, counted from 0: its row is radio place/n and its
- * column radio place%n. Its mirror cell has these two the other way round and must be the same.
- * The three are tried at one cell before the next, so an earlier cell is told whatever its fault.
+ * FOG_CELL_VALUE and FOG_CELL_MIRROR say what is wrong with the first bad cell of the table in row
+ * order. place is that cell, counted from 0: its row is radio place/n and its column radio place%n.
+ * Its mirror cell has these two the other way round and must be the same. Both are tried at one
+ * cell before the next, so an earlier cell is told whatever its fault.
  *
- * For callers of 1.x: FOG_CELL, which was 3, has become these three. Where you compared with it,
- * compare with all three; place is set for each of them. */
+ * For callers of 2.x: a 1 on the diagonal is no fault any more but a handheld, see fog_survey, and
+ * has no refusal. For callers of 1.x: FOG_CELL, which was 3, has become these two. Where you
+ * compared with it, compare with both; place is set for each of them. */
 enum fog_refusal {
     FOG_ACCEPTED = 0,
     FOG_NUMBER_OF_RADIOS = 1, /* n is below 2 or above 64 */
     FOG_TABLE_LENGTH = 2,     /* table_len is not n*n */
     FOG_CELL_VALUE = 3,       /* the cell holds something other than 0 or 1 */
-    FOG_CELL_DIAGONAL = 12,   /* the cell is 1 and on the diagonal: a radio is linked to itself */
     FOG_CELL_MIRROR = 13,     /* the cell differs from its mirror cell, as where one radio says that
                                  the two are linked and the other that they are not */
     FOG_TOO_MANY_LINKS = 4,   /* more than 256 links */
@@ -79,7 +79,7 @@ enum fog_role {
 /* The numbers that a survey returns. After a refusal the three counts are 0. */
 struct fog_outcome {
     size_t refusal;  /* an enum fog_refusal; 0 if the call was accepted */
-    size_t place;    /* the bad cell for FOG_CELL_VALUE, _DIAGONAL and _MIRROR, else 0 */
+    size_t place;    /* the bad cell for FOG_CELL_VALUE and FOG_CELL_MIRROR, else 0 */
     size_t paths;    /* how many paths were found: k, or all there are where there are fewer */
     size_t rounds;   /* how many rounds were started */
     size_t messages; /* how many messages were sent; the log's used bytes divided by 4 */
@@ -89,12 +89,15 @@ struct fog_outcome {
  *
  * n      the number of radios, 2 to 64; they are numbered from 0.
  * table  n*n bytes, row by row: cell i*n+j is 1 if radios i and j are linked, else 0. Symmetric,
- *        with a zero diagonal, at most 256 links. It is only read.
+ *        at most 256 links. Cell i*n+i is no link: it is 1 if radio i is a handheld, which does not
+ *        pass on what it hears, else 0. A handheld stands inside no path; as s or t it is an
+ *        ordinary radio. The table is only read.
  * log    gets every message in the order sent, four bytes each: kind, round, sending half,
  *        receiving half. Radio v's in half is number 2v, its out half 2v+1. It must have room for
  *        4*(2k+1)*A bytes, where
- *            A = 2m - deg(s) - deg(t) + (1 if s and t are linked, else 0) + n - 2
- *        with m the number of links and deg(v) the number of radios linked to v.
+ *            A = 2m - deg(s) - deg(t) + (1 if s and t are linked, else 0) + n - 2 - h
+ *        with m the number of links, deg(v) the number of radios linked to v and h the number of
+ *        handhelds other than s and t.
  *        FOG_LOG_ALWAYS_ENOUGH bytes are enough for every call. Where A is 0 no byte is needed.
  * paths  gets, for each path, its number of radios and then the radios from s to t. It must have
  *        room for n-2+3k bytes.

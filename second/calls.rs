@@ -1,10 +1,10 @@
 //! Calls of the library as lines of text: what a call leaves, every byte of it.
 //!
-//! A line is "run v=2 n=.. t=.. S=.. T=.. k=.. log=.. paths=.. cut=.. => result". The table is
+//! A line is "run v=.. n=.. t=.. S=.. T=.. k=.. log=.. paths=.. cut=.. => result". The table is
 //! given in hexadecimal. A buffer of the result is its length, a colon and its bytes in
 //! hexadecimal without the zeros at its end, or "-" where all of it is zero.
 //!
-//! Or it is "routes v=2 n=.. count=.. pl=.. records=.. was=.. => result": a path list, and so many
+//! Or it is "routes v=.. n=.. count=.. pl=.. records=.. was=.. => result": a path list, and so many
 //! records that all held the same four bytes. The result has every byte of them.
 
 use std::str::Split;
@@ -15,7 +15,7 @@ use crate::routes::{answer_routes, RouteCall, RoutesLeft};
 
 const BEFORE_RESULT: &str = " => ";
 /// The version of the rules that this program knows: the number of requests that have landed.
-const KNOWN_VERSION: usize = 2;
+const KNOWN_VERSION: usize = 3;
 
 /// The whole line with its result. An error tells what is wrong with the line, or a failed check.
 pub fn answer_line(line: &str) -> Result<String, String> {

@@ -2,7 +2,7 @@
 
 use crate::halves::{Half, Kind, Message, Search};
 use crate::largest::{is_path, largest_by_cuts, largest_by_flow, parts_ends, FEW_RADIOS};
-use crate::map::{in_half, is_in_half, out_half, Question};
+use crate::map::{in_half, is_in_half, out_half, radio_of, Question};
 use crate::outcome::{CutItem, Outcome};
 
 /// The numbers, the paths, the cut and the log of a run.
@@ -68,14 +68,13 @@ fn largest_checked(question: &Question) -> Result<usize, String> {
     Ok(largest)
 }
 
-/// Each path leads from S to T over links; no two share an inner radio or are the direct link twice.
+/// Each path leads from S to T over radios that forward; no two share one of them or are the direct
+/// link twice.
 fn check_paths(question: &Question, paths: &[Vec<usize>]) -> Result<(), String> {
     let mut used = vec![false; question.map.radios];
     let mut direct_paths = 0;
     for path in paths {
-        let right_ends =
-            path.first() == Some(&question.source) && path.last() == Some(&question.destination);
-        if !right_ends || !is_path(&question.map, path) {
+        if !is_path(question, path) {
             return Err(format!("{path:?} is no path from S to T"));
         }
         direct_paths += usize::from(path.len() == 2);
@@ -105,9 +104,9 @@ fn check_cut(question: &Question, outcome: &Outcome) -> Result<(), String> {
     let mut removed = vec![false; question.map.radios];
     for item in &outcome.cut {
         if let CutItem::Radio(radio) = *item {
-            if !question.is_inner(radio) || removed[radio] {
+            if !question.forwards(radio) || removed[radio] {
                 return Err(format!(
-                    "the cut {:?} names S or T or a radio twice",
+                    "the cut {:?} names S or T, a handheld, or a radio twice",
                     outcome.cut
                 ));
             }
@@ -164,7 +163,7 @@ pub fn check_marks(question: &Question, search: &Search) -> Result<usize, String
     )?;
     for (number, half) in &halves {
         check_both_ends_agree(search, *number, half)?;
-        check_one_way_out_of_in_half(question, *number, half)?;
+        check_ways_out_of_in_half(question, *number, half)?;
     }
     check_marks_go_through(question, search)?;
     let marked: usize = halves
@@ -204,8 +203,8 @@ fn check_both_ends_agree(search: &Search, number: usize, half: &Half) -> Result<
     Ok(())
 }
 
-/// In a finished marking an inner in half has exactly one step to walk.
-fn check_one_way_out_of_in_half(
+/// In a finished marking an inner in half has exactly one step to walk; a handheld's has none.
+fn check_ways_out_of_in_half(
     question: &Question,
     number: usize,
     half: &Half,
@@ -215,12 +214,13 @@ fn check_one_way_out_of_in_half(
     }
     expect_equal(
         "steps an in half can walk",
-        1,
+        usize::from(question.forwards(radio_of(number))),
         half.steps_it_can_walk().len(),
     )
 }
 
-/// At each inner radio as many marked steps arrive as leave: none, or one through its own step.
+/// At each inner radio as many marked steps arrive as leave: none, or one through its own step,
+/// which a handheld has not.
 fn check_marks_go_through(question: &Question, search: &Search) -> Result<(), String> {
     for radio in (0..question.map.radios).filter(|&radio| question.is_inner(radio)) {
         let (Some(front), Some(back)) = (

@@ -1,8 +1,9 @@
 //! The calls that the proved program `edges` makes: its input, and answered here its expected lines.
 //!
 //! Document 01's "n = 1, 64, 65; 256 and 257 links; k = 0, 8, 9; each buffer one byte short and
-//! exactly enough", huge numbers, and calls that follow others in the same buffers. What a call
-//! leaves does not depend on what the buffers held, so here each call stands alone.
+//! exactly enough", huge numbers, document 02's handhelds, and calls that follow others in the same
+//! buffers. What a call leaves does not depend on what the buffers held, so here each call stands
+//! alone.
 
 use crate::calls::write_bytes;
 use crate::map::Map;
@@ -20,12 +21,14 @@ const SUM_FACTOR: u64 = 257;
 
 /// A call before its table is made. The radios below `circle` stand in a circle, each linked to
 /// those at most `reach` places away; radio 0 is linked to the `spokes` radios after those too.
+/// The radios below `hands` are handhelds.
 #[derive(Clone, Copy)]
 struct Plan {
     radios: usize,
     circle: usize,
     reach: usize,
     spokes: usize,
+    hands: usize,
     /// The place of a cell that is not as the map has it, and what it holds.
     spoiled: Option<(usize, u8)>,
     source: usize,
@@ -56,6 +59,10 @@ impl Plan {
         }
     }
 
+    fn with_hands(self, hands: usize) -> Plan {
+        Plan { hands, ..self }
+    }
+
     fn with_spoiled(self, place: usize, held: u8) -> Plan {
         Plan {
             spoiled: Some((place, held)),
@@ -79,6 +86,14 @@ impl Plan {
         Plan { wanted, ..self }
     }
 
+    fn with_log(self, log: usize) -> Plan {
+        let lengths = Lengths {
+            log,
+            ..self.lengths
+        };
+        Plan { lengths, ..self }
+    }
+
     fn with_buffers(self, log: usize, paths: usize, cut: usize) -> Plan {
         Plan {
             lengths: Lengths { log, paths, cut },
@@ -99,6 +114,9 @@ impl Plan {
         }
         for spoke in 1..=self.spokes {
             map.link(0, self.reach + spoke);
+        }
+        for radio in 0..self.hands {
+            map.make_handheld(radio);
         }
         map
     }
@@ -135,6 +153,7 @@ const PAIR: Plan = Plan {
     circle: 2,
     reach: 1,
     spokes: 0,
+    hands: 0,
     spoiled: None,
     source: 0,
     destination: 1,
@@ -154,6 +173,7 @@ const LARGEST: Plan = Plan {
     circle: 64,
     reach: 4,
     spokes: 0,
+    hands: 0,
     spoiled: None,
     source: 0,
     destination: 32,
@@ -210,13 +230,68 @@ fn cell_values() -> Vec<Case> {
     ]
 }
 
-/// Refusal 12 at the first place, in the middle and at the last.
-fn diagonal_cells() -> Vec<Case> {
+/// A 1 on the diagonal, at its first place, in the middle and at its last: S, T and an inner radio.
+/// Only the third makes A smaller.
+fn single_handhelds() -> Vec<Case> {
+    let source = LARGEST.with_spoiled(0, 1);
+    let destination = LARGEST.with_spoiled(2080, 1);
+    let inner = LARGEST.with_spoiled(4095, 1);
     vec![
-        ("1 in the first cell", LARGEST.with_spoiled(0, 1)),
-        ("1 on the diagonal", LARGEST.with_spoiled(2080, 1)),
-        ("1 in the last cell", LARGEST.with_spoiled(4095, 1)),
-        ("1 in the last of four cells", PAIR.with_spoiled(3, 1)),
+        ("S is a handheld", source),
+        ("S is a handheld, log one short", source.with_log(37_943)),
+        ("T is a handheld", destination),
+        (
+            "T is a handheld, log one short",
+            destination.with_log(37_943),
+        ),
+        ("an inner handheld", inner.with_log(37_876)),
+        ("an inner handheld, log one short", inner.with_log(37_875)),
+        ("an inner handheld, log as before", inner),
+    ]
+}
+
+/// Many handhelds: none of their cells is a link, and each that is not S or T makes A smaller.
+fn many_handhelds() -> Vec<Case> {
+    let pair = PAIR.with_hands(2);
+    let half = LARGEST.with_hands(32).with_log(35_836);
+    let all = LARGEST.with_hands(64).with_log(33_728);
+    let linked_ends = all.with_ends(0, 63).with_log(33_796);
+    let lonely_ends = LARGEST
+        .with_links(62, 4, 8)
+        .with_ends(62, 63)
+        .with_hands(62)
+        .with_log(34_816);
+    let no_links = all.with_links(64, 0, 0).with_log(0);
+    vec![
+        ("two handhelds", pair),
+        ("two handhelds, log one short", pair.with_log(11)),
+        ("two handhelds, T before S", pair.with_ends(1, 0)),
+        ("half are handhelds", half),
+        ("half are handhelds, log one short", half.with_log(35_835)),
+        ("all are handhelds", all),
+        ("all are handhelds, log one short", all.with_log(33_727)),
+        ("all are handhelds, S and T are linked", linked_ends),
+        ("all but S and T are handhelds", lonely_ends),
+        (
+            "all but S and T are handhelds, log one short",
+            lonely_ends.with_log(34_815),
+        ),
+        ("64 handhelds, no links, no log", no_links),
+        ("257 links of handhelds", all.with_links(64, 4, 1)),
+    ]
+}
+
+/// Bad cells among handhelds, on the diagonal and off it.
+fn bad_cells_of_handhelds() -> Vec<Case> {
+    let spoiled = |place, held| LARGEST.with_hands(64).with_spoiled(place, held);
+    vec![
+        ("2 in the first cell, then handhelds", spoiled(0, 2)),
+        ("2 on the diagonal among handhelds", spoiled(2080, 2)),
+        ("2 in the last cell after handhelds", spoiled(4095, 2)),
+        ("2 for a link of handhelds", spoiled(1301, 2)),
+        ("0 below a link of handhelds", spoiled(64, 0)),
+        ("1 below no link of handhelds", spoiled(2580, 1)),
+        ("2 in the last of four cells", PAIR.with_spoiled(3, 2)),
     ]
 }
 
@@ -340,6 +415,7 @@ fn runs_after_runs() -> Vec<Case> {
     let refused = LARGEST.with_wanted(9);
     // A circle with two ways around it: two paths and a cut of two.
     let two_ways = LARGEST.with_links(64, 1, 0);
+    let half_handhelds = LARGEST.with_hands(32);
     let pairs = [
         (refused, "accepted after refused", LARGEST),
         (LARGEST, "refused after accepted", refused),
@@ -348,6 +424,8 @@ fn runs_after_runs() -> Vec<Case> {
         (LARGEST, "fewer paths after more", two_ways),
         (two_ways, "more paths after fewer", LARGEST),
         (two_ways, "no cut after a cut", two_ways.with_wanted(2)),
+        (LARGEST, "handhelds after none", half_handhelds),
+        (half_handhelds, "no handhelds after some", LARGEST),
         (LARGEST, "small buffers after large", PAIR),
     ];
     pairs
@@ -366,7 +444,9 @@ fn all_cases() -> Vec<Case> {
         numbers_of_radios(),
         tables(),
         cell_values(),
-        diagonal_cells(),
+        single_handhelds(),
+        many_handhelds(),
+        bad_cells_of_handhelds(),
         mirror_cells(),
         numbers_of_links(),
         numbers_wanted(),
@@ -388,7 +468,7 @@ pub fn write_edges() -> Result<String, String> {
     all_cases().iter().map(write_case).collect()
 }
 
-/// The name and fourteen numbers, parted by TABs.
+/// The name and fifteen numbers, parted by TABs.
 fn write_call((name, plan): &Case) -> String {
     let (spoiled, held) = plan.spoiled.unwrap_or((NOWHERE, 0));
     let numbers = [
@@ -403,6 +483,7 @@ fn write_call((name, plan): &Case) -> String {
         plan.circle,
         plan.reach,
         plan.spokes,
+        plan.hands,
         spoiled,
         usize::from(held),
         usize::from(plan.kept),

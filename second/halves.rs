@@ -1,4 +1,5 @@
 //! Document 01, "The token rules": rules 1 to 7 played by halves that know only their own notes.
+//! The two halves of a handheld (document 02, 3/13) have no step between them.
 //!
 //! Nothing here looks at the map from above once the halves are built. Each half keeps its
 //! notes and reads its inbox; a post office carries one message at a time and keeps the log.
@@ -353,7 +354,7 @@ fn build_in_half(question: &Question, radio: usize) -> Half {
             });
         }
     }
-    if question.is_inner(radio) {
+    if question.forwards(radio) {
         steps.push(StepNote {
             other: out_half(radio),
             leaves_here: true,
@@ -375,7 +376,7 @@ fn build_out_half(question: &Question, radio: usize) -> Half {
             });
         }
     }
-    if question.is_inner(radio) {
+    if question.forwards(radio) {
         steps.push(StepNote {
             other: in_half(radio),
             leaves_here: false,

@@ -5,7 +5,7 @@
 
 use std::collections::VecDeque;
 
-use crate::map::{Map, Question};
+use crate::map::Question;
 
 /// Up to this many radios all cuts are tried as well; the number of cuts doubles with each radio.
 pub const FEW_RADIOS: usize = 10;
@@ -25,7 +25,7 @@ impl Room {
             left: vec![0; nodes * nodes],
         };
         for radio in 0..radios {
-            if question.is_inner(radio) {
+            if question.forwards(radio) {
                 room.left[radio * nodes + radios + radio] = 1;
             }
             for neighbour in question.map.neighbours(radio) {
@@ -80,31 +80,34 @@ pub fn largest_by_flow(question: &Question) -> usize {
     gained
 }
 
-/// M as the size of a smallest cut: the direct link, if there is one, and the fewest inner radios.
+/// M as the size of a smallest cut: the direct link, if there is one, and the fewest radios that
+/// forward.
 pub fn largest_by_cuts(question: &Question) -> usize {
-    let inner: Vec<usize> = (0..question.map.radios)
-        .filter(|&radio| question.is_inner(radio))
+    let forwarding: Vec<usize> = (0..question.map.radios)
+        .filter(|&radio| question.forwards(radio))
         .collect();
     let direct = usize::from(question.ends_are_linked());
-    for size in 0..inner.len() {
-        for choice in 0..1usize << inner.len() {
-            if choice.count_ones() as usize == size && choice_parts_ends(question, &inner, choice) {
+    for size in 0..forwarding.len() {
+        for choice in 0..1usize << forwarding.len() {
+            let has_size = choice.count_ones() as usize == size;
+            if has_size && choice_parts_ends(question, &forwarding, choice) {
                 return size + direct;
             }
         }
     }
-    inner.len() + direct
+    forwarding.len() + direct
 }
 
-fn choice_parts_ends(question: &Question, inner: &[usize], choice: usize) -> bool {
+fn choice_parts_ends(question: &Question, forwarding: &[usize], choice: usize) -> bool {
     let mut removed = vec![false; question.map.radios];
-    for (place, &radio) in inner.iter().enumerate() {
+    for (place, &radio) in forwarding.iter().enumerate() {
         removed[radio] = choice >> place & 1 == 1;
     }
     parts_ends(question, &removed, true)
 }
 
 /// Whether T cannot be reached from S without the removed radios (and without the direct link).
+/// A handheld leads nowhere.
 pub fn parts_ends(question: &Question, removed: &[bool], without_direct_link: bool) -> bool {
     let mut reached = vec![false; question.map.radios];
     let mut waiting = vec![question.source];
@@ -112,7 +115,8 @@ pub fn parts_ends(question: &Question, removed: &[bool], without_direct_link: bo
     while let Some(here) = waiting.pop() {
         for next in question.map.neighbours(here) {
             let direct = here == question.source && next == question.destination;
-            if reached[next] || removed[next] || (direct && without_direct_link) {
+            let goes_on = next == question.destination || question.forwards(next);
+            if !goes_on || reached[next] || removed[next] || (direct && without_direct_link) {
                 continue;
             }
             reached[next] = true;
@@ -122,12 +126,18 @@ pub fn parts_ends(question: &Question, removed: &[bool], without_direct_link: bo
     !reached[question.destination]
 }
 
-/// Whether every two neighbours in the list are linked and no radio stands in it twice.
-pub fn is_path(map: &Map, radios: &[usize]) -> bool {
-    let linked = radios.windows(2).all(|pair| map.linked(pair[0], pair[1]));
+/// Whether the list leads from S to T, every two neighbours in it are linked, no radio stands in it
+/// twice, and all between the ends forward.
+pub fn is_path(question: &Question, radios: &[usize]) -> bool {
+    let [source, inner @ .., destination] = radios else {
+        return false;
+    };
+    let right_ends = *source == question.source && *destination == question.destination;
+    let linked = |pair: &[usize]| question.map.linked(pair[0], pair[1]);
     let different = radios
         .iter()
         .enumerate()
         .all(|(place, radio)| !radios[..place].contains(radio));
-    linked && different
+    let forwarding = inner.iter().all(|&radio| question.forwards(radio));
+    right_ends && radios.windows(2).all(linked) && different && forwarding
 }

@@ -26,7 +26,7 @@ usage: second sheet              one capture on standard input, its sheet on sta
        second edges calls        the calls of the program edges, as it reads them
        second rows               the rows of document 01 as computed here
        second soak COUNT SEED    COUNT random maps held against every check
-       second every RADIOS       all maps of 2 to 6 radios held against every check
+       second every RADIOS       all maps of 2 to 6 radios, with every set of handhelds, held against every check
 ";
 
 const EXIT_FAULT: u8 = 1;

@@ -6,14 +6,13 @@
 use std::collections::HashSet;
 
 use crate::map::{Map, Question, FEWEST_RADIOS, MOST_LINKS, MOST_RADIOS, MOST_WANTED};
-use crate::sheet::Capture;
+use crate::sheet::{Capture, Record};
 
 #[derive(Clone, Copy, Debug, PartialEq, Eq)]
 pub enum Refusal {
     NumberOfRadios,
     TableLength,
     CellValue { place: usize },
-    CellDiagonal { place: usize },
     CellMirror { place: usize },
     TooManyLinks,
     Ends,
@@ -22,7 +21,7 @@ pub enum Refusal {
     ListTooShort,
     LineShape { line: usize },
     TextTooLong,
-    LinkLine { line: usize },
+    BadLine { line: usize },
     TooFewRecords,
     PathList,
 }
@@ -33,7 +32,6 @@ impl Refusal {
             Refusal::NumberOfRadios => 1,
             Refusal::TableLength => 2,
             Refusal::CellValue { .. } => 3,
-            Refusal::CellDiagonal { .. } => 12,
             Refusal::CellMirror { .. } => 13,
             Refusal::TooManyLinks => 4,
             Refusal::Ends => 5,
@@ -42,7 +40,7 @@ impl Refusal {
             Refusal::ListTooShort => 8,
             Refusal::LineShape { .. } => 9,
             Refusal::TextTooLong => 10,
-            Refusal::LinkLine { .. } => 11,
+            Refusal::BadLine { .. } => 11,
             Refusal::TooFewRecords => 20,
             Refusal::PathList => 21,
         }
@@ -50,10 +48,8 @@ impl Refusal {
 
     pub fn place(self) -> usize {
         match self {
-            Refusal::CellValue { place }
-            | Refusal::CellDiagonal { place }
-            | Refusal::CellMirror { place } => place,
-            Refusal::LineShape { line } | Refusal::LinkLine { line } => line,
+            Refusal::CellValue { place } | Refusal::CellMirror { place } => place,
+            Refusal::LineShape { line } | Refusal::BadLine { line } => line,
             _ => 0,
         }
     }
@@ -87,7 +83,7 @@ pub struct Call {
     pub lengths: Lengths,
 }
 
-/// Refusals 1, 2, then 3, 12 or 13 for the first bad cell, and 4 to 8, in this order.
+/// Refusals 1, 2, then 3 or 13 for the first bad cell, and 4 to 8, in this order.
 pub fn judge_call(call: &Call) -> Result<Question, Refusal> {
     judge_number_of_radios(call.radios)?;
     if call.table.len() != call.radios * call.radios {
@@ -103,8 +99,8 @@ pub fn judge_call(call: &Call) -> Result<Question, Refusal> {
 /// The program's 1, 11, 4, 5 and 6; its 10 and 9 come from the reader of the text.
 pub fn judge_capture(capture: &Capture) -> Result<Question, Refusal> {
     judge_number_of_radios(capture.radios)?;
-    let map = judge_link_lines(capture)?;
-    judge_number_of_links(capture.links.len())?;
+    let map = judge_lines(capture)?;
+    judge_number_of_links(map.links().len())?;
     judge_ends_and_wanted(map, capture.source, capture.destination, capture.wanted)
 }
 
@@ -115,7 +111,7 @@ pub fn judge_number_of_radios(radios: usize) -> Result<(), Refusal> {
     Err(Refusal::NumberOfRadios)
 }
 
-/// Refusals 3, 12 and 13: the first bad cell in row order, by the first kind of fault that it has.
+/// Refusals 3 and 13: the first bad cell in row order, by the first kind of fault that it has.
 fn judge_cells(radios: usize, table: &[u8]) -> Result<Map, Refusal> {
     let mut map = Map::without_links(radios);
     for row in 0..radios {
@@ -126,14 +122,11 @@ fn judge_cells(radios: usize, table: &[u8]) -> Result<Map, Refusal> {
             if cell > 1 {
                 return Err(Refusal::CellValue { place });
             }
-            if row == column && cell != 0 {
-                return Err(Refusal::CellDiagonal { place });
-            }
             if cell != mirror {
                 return Err(Refusal::CellMirror { place });
             }
             if cell == 1 {
-                map.link(row, column);
+                map.take_cell(row, column);
             }
         }
     }
@@ -180,18 +173,23 @@ fn judge_lengths(question: &Question, lent: Lengths) -> Result<(), Refusal> {
     Ok(())
 }
 
-/// Refusal 11: the first link line out of order, out of the map, or repeated.
-fn judge_link_lines(capture: &Capture) -> Result<Map, Refusal> {
+/// Refusal 11: the first line out of order, out of the map, or repeated.
+fn judge_lines(capture: &Capture) -> Result<Map, Refusal> {
     let mut map = Map::without_links(capture.radios);
     let mut seen = HashSet::new();
-    for link in &capture.links {
-        let rises = link.first < link.second;
-        let on_the_map = link.second < capture.radios;
-        let is_new = seen.insert((link.first, link.second));
-        if !rises || !on_the_map || !is_new {
-            return Err(Refusal::LinkLine { line: link.line });
+    for line in &capture.lines {
+        let fits_the_map = match line.record {
+            Record::Link { first, second } => first < second && second < capture.radios,
+            Record::Hand { radio } => radio < capture.radios,
+        };
+        let is_new = seen.insert(line.record);
+        if !fits_the_map || !is_new {
+            return Err(Refusal::BadLine { line: line.number });
         }
-        map.link(link.first, link.second);
+        match line.record {
+            Record::Link { first, second } => map.link(first, second),
+            Record::Hand { radio } => map.make_handheld(radio),
+        }
     }
     Ok(map)
 }

@@ -1,6 +1,7 @@
-//! Document 01, "Maps on both sides of each edge": the ten rows, and map Q with k = 3.
+//! Document 01, "Maps on both sides of each edge": the ten rows, and map Q with k = 3. Then three maps
+//! with handhelds (document 02, 3/13).
 
-use crate::map::{write_links, Map, Question};
+use crate::map::{or_none, write_links, Map, Question};
 use crate::outcome::{run_checked, CutItem, Outcome};
 use crate::refusals::{judge_call, lengths_needed, Call, Lengths};
 
@@ -12,6 +13,7 @@ const ENOUGH_FOR_ALL: Lengths = Lengths {
 };
 
 enum Shape {
+    /// A handheld is linked to itself.
     Links(&'static [(usize, usize)]),
     Cells(&'static [u8]),
 }
@@ -55,7 +57,20 @@ const MAP_Q: Shape = Shape::Links(&[
     (6, 7),
 ]);
 
-const ROWS: [Row; 11] = [
+const MAP_Q_WITH_A_HANDHELD: Shape = Shape::Links(&[
+    (0, 1),
+    (0, 4),
+    (1, 2),
+    (1, 6),
+    (2, 3),
+    (2, 5),
+    (3, 4),
+    (3, 7),
+    (6, 7),
+    (6, 6),
+]);
+
+const ROWS: [Row; 14] = [
     row("two-linked-1", 2, Shape::Links(&[(0, 1)]), 0, 1, 1),
     row("two-linked-2", 2, Shape::Links(&[(0, 1)]), 0, 1, 2),
     row("two-apart-1", 2, Shape::Links(&[]), 0, 1, 1),
@@ -81,6 +96,23 @@ const ROWS: [Row; 11] = [
     row("same-ends", 2, Shape::Links(&[(0, 1)]), 1, 1, 1),
     row("one-sided-cell", 2, Shape::Cells(&[0, 1, 0, 0]), 0, 1, 1),
     row("Q-3", 8, MAP_Q, 0, 7, 3),
+    row(
+        "handheld-chain-1",
+        3,
+        Shape::Links(&[(0, 1), (1, 2), (1, 1)]),
+        0,
+        2,
+        1,
+    ),
+    row(
+        "handheld-ends-1",
+        2,
+        Shape::Links(&[(0, 1), (0, 0), (1, 1)]),
+        0,
+        1,
+        1,
+    ),
+    row("handheld-Q-2", 8, MAP_Q_WITH_A_HANDHELD, 0, 7, 2),
 ];
 
 /// One line a row, as this program computes it.
@@ -123,7 +155,9 @@ fn table_of(row: &Row) -> Vec<u8> {
         Shape::Cells(cells) => cells.to_vec(),
         Shape::Links(links) => {
             let mut map = Map::without_links(row.radios);
-            links.iter().for_each(|&(one, other)| map.link(one, other));
+            links
+                .iter()
+                .for_each(|&(one, other)| map.take_cell(one, other));
             map.table()
         }
     }
@@ -163,13 +197,6 @@ fn write_cut_item(item: &CutItem) -> String {
         CutItem::Radio(radio) => radio.to_string(),
         CutItem::DirectLink => "255".to_string(),
     }
-}
-
-fn or_none(items: Vec<String>) -> String {
-    if items.is_empty() {
-        return "none".to_string();
-    }
-    items.join(",")
 }
 
 fn join<Number: ToString>(numbers: &[Number], between: &str) -> String {

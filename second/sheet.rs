@@ -11,10 +11,17 @@ const LARGEST_NUMBER: usize = 65535;
 /// No number of a text needs more digits than its largest.
 const MOST_DIGITS: usize = 5;
 
-pub struct LinkLine {
-    pub line: usize,
-    pub first: usize,
-    pub second: usize,
+/// What a line after the first says.
+#[derive(Clone, Copy, PartialEq, Eq, Hash)]
+pub enum Record {
+    Link { first: usize, second: usize },
+    Hand { radio: usize },
+}
+
+pub struct Line {
+    /// Counted from 1 over all lines.
+    pub number: usize,
+    pub record: Record,
 }
 
 /// A text whose lines all have the right shape; nothing else of it has been judged.
@@ -24,7 +31,7 @@ pub struct Capture {
     pub source: usize,
     pub destination: usize,
     pub wanted: usize,
-    pub links: Vec<LinkLine>,
+    pub lines: Vec<Line>,
 }
 
 /// The whole program: a text in, its sheet out. An error is a failed check, never a refusal.
@@ -55,17 +62,11 @@ fn read_capture(text: &[u8]) -> Result<Capture, Refusal> {
     let Some([number, radios, source, destination, wanted]) = first_line else {
         return Err(Refusal::LineShape { line: 1 });
     };
-    let mut links = Vec::new();
+    let mut records = Vec::new();
     for (lines_before, line) in lines {
-        let line_number = lines_before + 1;
-        let Some([first, second]) = read_line(line, b"link") else {
-            return Err(Refusal::LineShape { line: line_number });
-        };
-        links.push(LinkLine {
-            line: line_number,
-            first,
-            second,
-        });
+        let number = lines_before + 1;
+        let record = read_record(line).ok_or(Refusal::LineShape { line: number })?;
+        records.push(Line { number, record });
     }
     Ok(Capture {
         number,
@@ -73,8 +74,16 @@ fn read_capture(text: &[u8]) -> Result<Capture, Refusal> {
         source,
         destination,
         wanted,
-        links,
+        lines: records,
     })
+}
+
+fn read_record(line: &[u8]) -> Option<Record> {
+    if let Some([radio]) = read_line(line, b"hand") {
+        return Some(Record::Hand { radio });
+    }
+    let [first, second] = read_line(line, b"link")?;
+    Some(Record::Link { first, second })
 }
 
 /// A line that is the word, then exactly COUNT numbers, fields parted by a tab, and a line feed.

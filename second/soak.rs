@@ -8,7 +8,7 @@ use crate::refusals::{judge_call, lengths_needed, Call, Lengths, Refusal};
 use crate::sheet::judge_text;
 
 const BETWEEN_PROGRESS_LINES: Duration = Duration::from_secs(5);
-/// All maps of more radios take too long.
+/// All maps of so many radios take an hour, and of more too long.
 pub const MOST_RADIOS_FOR_EVERY: usize = 6;
 
 /// What the runs showed, for the line at the end.
@@ -81,22 +81,24 @@ pub fn soak(count: usize, seed: u64) -> Result<String, String> {
         let question = random_question(&mut chance);
         tally.run(&question)?;
         check_lengths_on_both_sides(&question)?;
-        check_text_reads_back(&question)?;
+        check_text_reads_back(&question, &mut chance)?;
+        check_ends_are_ordinary(&question)?;
     }
     Ok(tally.write())
 }
 
-/// Every map of that many radios, every S and T, every k that can matter and one more.
+/// Every map of that many radios, every S and T, every k that can matter and one more. The cells
+/// on the diagonal are chosen with the others: every set of radios is one of handhelds.
 pub fn every(radios: usize) -> Result<String, String> {
-    let pairs: Vec<(usize, usize)> = (0..radios)
-        .flat_map(|upper| (0..upper).map(move |lower| (lower, upper)))
+    let cells: Vec<(usize, usize)> = (0..radios)
+        .flat_map(|upper| (0..=upper).map(move |lower| (lower, upper)))
         .collect();
     let mut tally = Tally::default();
-    for choice in 0..1usize << pairs.len() {
+    for choice in 0..1usize << cells.len() {
         let mut map = Map::without_links(radios);
-        for (place, &(lower, upper)) in pairs.iter().enumerate() {
+        for (place, &(lower, upper)) in cells.iter().enumerate() {
             if choice >> place & 1 == 1 {
-                map.link(lower, upper);
+                map.take_cell(lower, upper);
             }
         }
         run_all_questions(&map, &mut tally)?;
@@ -170,16 +172,22 @@ fn check_lengths_on_both_sides(question: &Question) -> Result<(), String> {
     Ok(())
 }
 
-/// The map written as a capture text is read back as it was.
-fn check_text_reads_back(question: &Question) -> Result<(), String> {
+/// The map written as a capture text, its lines in any order, is read back as it was.
+fn check_text_reads_back(question: &Question, chance: &mut Chance) -> Result<(), String> {
     let (radios, wanted) = (question.map.radios, question.wanted);
-    let mut text = format!(
-        "net\t1\t{radios}\t{}\t{}\t{wanted}\n",
-        question.source, question.destination
+    let links = question.map.links().into_iter();
+    let hands = question.map.handhelds().into_iter();
+    let mut lines: Vec<String> = links
+        .map(|(lower, upper)| format!("link\t{lower}\t{upper}\n"))
+        .chain(hands.map(|radio| format!("hand\t{radio}\n")))
+        .collect();
+    chance.shuffle(&mut lines);
+    let text = format!(
+        "net\t1\t{radios}\t{}\t{}\t{wanted}\n{}",
+        question.source,
+        question.destination,
+        lines.concat()
     );
-    for (lower, upper) in question.map.links() {
-        text += &format!("link\t{lower}\t{upper}\n");
-    }
     match judge_text(text.as_bytes()) {
         Ok((1, ref read)) if read == question => Ok(()),
         other => Err(format!(
@@ -187,6 +195,36 @@ fn check_text_reads_back(question: &Question) -> Result<(), String> {
             question.describe()
         )),
     }
+}
+
+/// As S or T a handheld is an ordinary radio: all is the same where S and T turn from the one into
+/// the other.
+fn check_ends_are_ordinary(question: &Question) -> Result<(), String> {
+    let mut map = Map::without_links(question.map.radios);
+    for (lower, upper) in question.map.links() {
+        map.link(lower, upper);
+    }
+    for radio in 0..map.radios {
+        if question.map.is_handheld(radio) == question.is_inner(radio) {
+            map.make_handheld(radio);
+        }
+    }
+    let turned = Question {
+        map,
+        ..question.clone()
+    };
+    let left = |question: &Question| {
+        let outcome = run_checked(question)?;
+        let lists = [outcome.path_bytes(), outcome.cut_bytes()];
+        Ok::<_, String>((outcome.log_bytes(), lists, outcome.rounds))
+    };
+    if left(question)? == left(&turned)? {
+        return Ok(());
+    }
+    Err(format!(
+        "S or T as a handheld is no ordinary radio\n  case: {}",
+        question.describe()
+    ))
 }
 
 /// A small source of chance (the splitmix step), so that a seed names its maps on every machine.
@@ -239,11 +277,34 @@ fn random_question(chance: &mut Chance) -> Question {
     }
     let (source, destination) = random_ends(chance, radios);
     let wanted = chance.between(1, MOST_WANTED);
-    Question {
+    let mut question = Question {
         map: map_of_pairs(radios, &pairs, &names),
         source: names[source],
         destination: names[destination],
         wanted,
+    };
+    if chance.below(2) == 0 {
+        add_handhelds(chance, &mut question);
+    }
+    question
+}
+
+/// From few inner radios to all of them; S and T by themselves or with those.
+fn add_handhelds(chance: &mut Chance, question: &mut Question) {
+    let percent = match chance.below(6) {
+        0 => 0,
+        1 => 100,
+        2 => chance.between(1, 100),
+        _ => chance.between(1, 25),
+    };
+    for radio in 0..question.map.radios {
+        let is_handheld = match question.is_inner(radio) {
+            true => chance.below(100) < percent,
+            false => chance.below(3) == 0,
+        };
+        if is_handheld {
+            question.map.make_handheld(radio);
+        }
     }
 }
 

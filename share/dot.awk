@@ -20,6 +20,9 @@ BEGIN {
 
     cut_ground = "#d0d0d0"
 
+    # A handheld has this outline and the word hand, so that it is seen without colours too.
+    hand_outline = "dashed"
+
     # Inches, as whole numbers: Graphviz drops the rest. Far is more than 63 links in a row, and so keeps no radio from
     # where its links put it.
     near = 2
@@ -27,6 +30,7 @@ BEGIN {
     far = 200
 
     links = 0
+    hands = 0
     paths = 0
     sheet_lines = split(ENVIRON["FOG_SHEET"], sheet, "\n")
     split(sheet[1], report, "\t")
@@ -51,6 +55,11 @@ $1 == "link" {
     first[links] = $2
     second[links] = $3
     if (is_direct($2, $3)) has_direct = 1
+}
+
+$1 == "hand" {
+    hands++
+    is_hand[$2] = 1
 }
 
 END {
@@ -112,7 +121,7 @@ function draw_site(    i) {
     print "    fontname=\"Helvetica\""
     print "    fontsize=18"
     print "    label=<" legend() ">"
-    print "    node [shape=circle, fixedsize=true, width=0.6, fontname=\"Helvetica\", fontsize=18, style=filled, fillcolor=white]"
+    print "    node [shape=circle, fixedsize=true, fontname=\"Helvetica\", fontsize=18, style=filled, fillcolor=white]"
     print "    edge [len=" near ", color=\"#909090\", fontname=\"Helvetica-Bold\", fontsize=15, labelangle=0, labeldistance=1.8]"
     draw_radio(source)
     draw_radio(destination)
@@ -129,25 +138,40 @@ function is_direct(a, b) {
     return (a == source && b == destination) || (a == destination && b == source)
 }
 
-function draw_radio(radio,    kind, label, look) {
+function draw_radio(radio,    kind, label, look, side) {
     kind = "radio"
     label = radio
+    side = 0.6
     if (radio == source) {
         kind = "source"
         label = "S<br/>" radio
-        look = ", shape=box, width=0.75, height=0.75, penwidth=3"
+        look = ", shape=box, penwidth=3"
+        side = 0.75
     }
     if (radio == destination) {
         kind = "destination"
         label = "T<br/>" radio
-        look = ", shape=octagon, width=0.85, height=0.85, penwidth=3"
+        look = ", shape=octagon, penwidth=3"
+        side = 0.85
     }
     if (radio in is_cut) {
         kind = "cut"
-        label = radio "<br/><font point-size=\"14\">cut</font>"
-        look = ", width=0.7, peripheries=2, penwidth=2, fillcolor=\"" cut_ground "\""
+        label = radio "<br/>" small("cut")
+        look = ", peripheries=2, penwidth=2, fillcolor=\"" cut_ground "\""
+        side = 0.7
     }
-    print "    " radio " [class=\"" kind "\", label=<" label ">" look "]"
+    # S and T keep their look otherwise. No other handheld is on a path, and so none is in a cut.
+    if (radio in is_hand) {
+        look = (look == "" ? ", penwidth=2" : look) ", style=\"filled," hand_outline "\""
+        kind = kind " handheld"
+        label = label "<br/>" small("hand")
+        side += 0.15
+    }
+    print "    " radio " [class=\"" kind "\", label=<" label ">" look ", width=" side ", height=" side "]"
+}
+
+function small(word) {
+    return "<font point-size=\"14\">" word "</font>"
 }
 
 function draw_link(a, b) {
@@ -194,14 +218,27 @@ function heading() {
 function legend(    rows) {
     rows = row("<b>" heading() "</b>")
     rows = rows row("capture " capture ": " counted(radios, "radio") ", " counted(links, "link") "; S is radio " source ", T is radio " destination)
-    if (paths > 0) rows = rows "<tr><td align=\"left\">" paths_and_cut() "</td><td colspan=\"" (columns - 1) "\"></td></tr>"
+    if (paths > 0 || hands > 0) rows = rows "<tr><td align=\"left\">" what_is_marked() "</td><td colspan=\"" (columns - 1) "\"></td></tr>"
     return table(rows, "")
 }
 
-function paths_and_cut(    i, rows) {
+function what_is_marked(    i, rows) {
     for (i = 1; i <= paths; i++) rows = rows named_row("path " i, sample_of(i), route[i])
     if (cut != "") rows = rows named_row("cut", tag("cut", cut_ground), cut)
+    if (hands > 0) rows = rows named_row(hands == 1 ? "handheld" : "handhelds", hand_sample(), handhelds())
     return table(rows, "cellspacing=\"3\"")
+}
+
+# Of one size, or it would grow as high as a long list of handhelds.
+function hand_sample() {
+    return "<table border=\"2\" style=\"" hand_outline "\" cellborder=\"0\" cellspacing=\"0\" cellpadding=\"0\" fixedsize=\"true\" width=\"50\" height=\"26\"><tr><td width=\"46\" height=\"22\">" small("hand") "</td></tr></table>"
+}
+
+# By rising number, whatever the order of their lines.
+function handhelds(    radio, all) {
+    for (radio = 0; radio < radios; radio++)
+        if (radio in is_hand) all = all (all == "" ? "" : ", ") radio
+    return hands == 1 ? "radio " all ", which passes nothing on" : "radios " all ", which pass nothing on"
 }
 
 # Each line is the upper border of an empty cell, dashed as on the site.

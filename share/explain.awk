@@ -14,8 +14,10 @@ BEGIN {
     # More of a strange field than this helps nobody.
     most_shown = 20
 
-    names_of_head = "the word net,the capture number,the number of radios,S,T,k"
-    names_of_link = "the word link,the first radio,the second radio"
+    # The fields of each kind of line, the first of them its word.
+    fields_of["net"] = "net,the capture number,the number of radios,S,T,k"
+    fields_of["link"] = "link,the first radio,the second radio"
+    fields_of["hand"] = "hand,the radio"
     split("one two three four five six seven eight", in_words, " ")
 
     lines = 1
@@ -61,8 +63,8 @@ function on_refusal(number, place) {
     if (number == 10) return "the capture is longer than " most_bytes " bytes"
     if (number == 9) return "line " place ": " on_shape(place)
     if (number == 1) return "line 1: the site has " radios_in_words(head[3]) "; it must have " fewest_radios " to " most_radios
-    if (number == 11) return "line " place ": link " link_in_words(place) ": " on_link(place, head[3])
-    if (number == 4) return "the capture has " (lines - 2) " links; it may have " most_links " at most"
+    if (number == 11) return "line " place ": " in_gaps(text[place]) ": " on_record(place, head[3])
+    if (number == 4) return "the capture has " count_links() " links; it may have " most_links " at most"
     if (number == 5) return "line 1: " on_ends(head[3], head[4], head[5])
     if (number == 6) return "line 1: k is " head[6] "; it must be 1 to " most_paths
     return "refused by number " number ": docs/REFUSALS.md says what it means"
@@ -75,8 +77,23 @@ function on_shape(line,    wrong) {
     if (!is_ended[line]) return mended("it is the last line and no line feed ends it")
     if (line in strange) return on_strange(line)
     if (text[line] == "") return mended("it is blank")
-    wrong = (line == 1) ? on_fields(line, "net", names_of_head) : on_fields(line, "link", names_of_link)
+    wrong = on_fields(line, word_meant(line))
     return wrong == "" ? "it does not have the right shape" : wrong
+}
+
+# The first line is the net line. Of the others the first word tells, whatever parts it from the rest.
+function word_meant(line,    part) {
+    if (line == 1) return "net"
+    split(without_edges(line), part, /[ ,;\t]+/)
+    return part[1] == "hand" ? "hand" : "link"
+}
+
+# The line without quotes, and without signs that part nothing.
+function without_edges(line,    parted) {
+    parted = text[line]
+    gsub(/"/, "", parted)
+    gsub(/^[ ,;\t]+|[ ,;\t]+$/, "", parted)
+    return parted
 }
 
 # What share/tidy.awk puts right.
@@ -97,14 +114,14 @@ function on_strange(line,    byte, wrong) {
     return "it holds a letter or sign that is not plain ASCII (byte " byte ")"
 }
 
-function on_fields(line, word, names,    field, name, count, wanted, i, wrong) {
+function on_fields(line, word,    field, name, count, wanted, i, wrong) {
     count = split(text[line], field, "\t")
-    wanted = split(names, name, ",")
+    wanted = split(fields_of[word], name, ",")
     if (field[1] != word || count != wanted) wrong = on_separators(line, word, count)
     if (wrong != "") return wrong
-    if (field[1] != word) return on_word(line, field[1], word)
+    if (field[1] != word) return on_word(line, field[1])
     if (count > wanted && text[line] ~ /\t$/) return on_tail(field, count, wanted)
-    if (count != wanted) return "it has " counted(count, "field") "; it must have " wanted ": " all_names(word, name, wanted)
+    if (count != wanted) return "it has " counted(count, "field") "; it must have " wanted ": " all_names(name, wanted)
     for (i = 2; i <= wanted; i++) {
         wrong = on_number(name[i], field[i])
         if (wrong != "") return wrong
@@ -114,9 +131,7 @@ function on_fields(line, word, names,    field, name, count, wanted, i, wrong) {
 
 # Other signs than tabs that part it into more fields, the first of them the right word.
 function on_separators(line, word, count,    parted, part, signs, wrong) {
-    parted = text[line]
-    gsub(/"/, "", parted)
-    gsub(/^[ ,;\t]+|[ ,;\t]+$/, "", parted)
+    parted = without_edges(line)
     if (split(parted, part, /[ ,;\t]+/) <= count || part[1] != word) return ""
     signs = signs_in_words(parted)
     wrong = (parted ~ /\t/ ? "some of its fields" : "its fields") " are parted by " signs "; one tab must part them"
@@ -138,15 +153,16 @@ function on_tail(field, count, wanted,    i) {
     return mended(count == wanted + 1 ? "a tab stands at its end" : "tabs stand at its end")
 }
 
-function on_word(line, found, word) {
+function on_word(line, found,    words) {
+    words = line == 1 ? "net" : "link or hand"
     if (text[line] ~ /^[ \t]*#/) return mended("it begins with #; a capture has no remarks")
-    if (found == "" && text[line] ~ /^\t/) return "it starts with a tab; it must start with the word " word
+    if (found == "" && text[line] ~ /^\t/) return "it starts with a tab; it must start with the word " words
     if (found ~ /^"/) return mended("quotes stand around its first field; a capture has none")
     # Without a tab the whole line is one field, and its first word tells more.
     if (text[line] !~ /\t/ && match(found, /[^ ,;]+/)) found = substr(found, RSTART, RLENGTH)
     if (line > 1 && found == "net") return "it is a second net line; a capture has one, its first line"
-    if (line == 1 && found == "link") return "it is a link line; the first line must be the net line"
-    return "it starts with \"" shown(found) "\"; it must start with the word " word
+    if (line == 1 && (found == "link" || found == "hand")) return "it is a " found " line; the first line must be the net line"
+    return "it starts with \"" shown(found) "\"; it must start with the word " words
 }
 
 function on_number(name, field) {
@@ -161,8 +177,8 @@ function on_number(name, field) {
     return ""
 }
 
-function all_names(word, name, count,    i, all) {
-    all = word
+function all_names(name, count,    i, all) {
+    all = name[1]
     for (i = 2; i <= count; i++) all = all ", " name[i]
     return all
 }
@@ -171,21 +187,44 @@ function shown(field) {
     return length(field) > most_shown ? substr(field, 1, most_shown) "..." : field
 }
 
-# ---- 11, 1 and 5
+# ---- 11, 4, 1 and 5
 
-function link_in_words(line,    field) {
-    split(text[line], field, "\t")
-    return field[2] " " field[3]
+function in_gaps(words) {
+    gsub(/\t/, " ", words)
+    return words
 }
 
-function on_link(line, radios,    field, before) {
+function on_record(line, radios,    field) {
     split(text[line], field, "\t")
+    return field[1] == "hand" ? on_hand(line, field[2], radios) : on_link(line, field, radios)
+}
+
+function on_hand(line, radio, radios) {
+    if (radio + 0 >= radios + 0) return no_radio(radio, radios)
+    return on_repeat(line, "handheld")
+}
+
+function on_link(line, field, radios) {
     if (field[2] + 0 > field[3] + 0) return mended("the first radio must be below the second")
     if (field[2] + 0 == field[3] + 0) return "the first radio must be below the second"
-    if (field[3] + 0 >= radios + 0) return "there is no radio " field[3] "; " numbered(radios)
+    if (field[3] + 0 >= radios + 0) return no_radio(field[3], radios)
+    return on_repeat(line, "link")
+}
+
+function no_radio(radio, radios) {
+    return "there is no radio " radio "; " numbered(radios)
+}
+
+function on_repeat(line, thing,    before) {
     for (before = 2; before < line; before++)
-        if (text[before] == text[line]) return "the same link stands in line " before
+        if (text[before] == text[line]) return "the same " thing " stands in line " before
     return "it cannot stand here"
+}
+
+function count_links(    line, links) {
+    for (line = 2; line <= lines; line++)
+        if (text[line] ~ /^link\t/) links++
+    return links
 }
 
 function on_ends(radios, source, destination) {
@@ -222,8 +261,19 @@ function on_full(wanted,    all) {
 
 function on_short(paths,    head) {
     split(text[1], head, "\t")
-    if (paths == 0) return "short: there is no path at all " ways_in_words()
-    return "short: only " in_words[paths] " of the " in_words[head[6]] " paths wanted " (paths == 1 ? "exists" : "exist") "; every path " ways_in_words() " " cut_in_words()
+    if (paths == 0) return "short: there is no path at all " ways_in_words() handhelds_in_words()
+    return "short: only " in_words[paths] " of the " in_words[head[6]] " paths wanted " (paths == 1 ? "exists" : "exist") "; every path " ways_in_words() " " cut_in_words() handhelds_in_words()
+}
+
+# Whoever follows the links sees ways through handhelds, which are no paths. S and T need not pass anything on.
+function handhelds_in_words(    head, line, is_line, radio, hand, count, i, words) {
+    split(text[1], head, "\t")
+    for (line = 2; line <= lines; line++) is_line[text[line]] = 1
+    for (radio = 0; radio < head[3]; radio++)
+        if (("hand\t" radio) in is_line && radio != head[4] && radio != head[5]) hand[++count] = radio
+    if (count == 0) return ""
+    for (i = 1; i <= count; i++) words = words (i == 1 ? "" : i == count ? " and " : ", ") hand[i]
+    return "; the " (count == 1 ? "handheld " words " passes" : "handhelds " words " pass") " nothing on"
 }
 
 # The direct link stands for itself; all other paths hold a radio of the cut.

@@ -1,7 +1,7 @@
-# Makes a capture of what a spreadsheet or a hand wrote: the raw text on standard input, the capture on standard output, and on
+# Makes a capture of what a spreadsheet or a person wrote: the raw text on standard input, the capture on standard output, and on
 # standard error a line for each kind of change, with the lines of the raw text that it was made in.
-# It judges no number and takes out no link: what is still wrong the program refuses. Where the text makes no sense it writes
-# no capture, says why in one sentence, and ends with status 1. LC_ALL=C: a byte is a letter, whatever it is.
+# It judges no number and takes out neither link nor handheld: what is still wrong the program refuses. Where the text makes no
+# sense it writes no capture, says why in one sentence, and ends with status 1. LC_ALL=C: a byte is a letter, whatever it is.
 # Of a longer text than most_bytes a caller need hand over one byte more and no further.
 
 BEGIN {

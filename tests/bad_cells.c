@@ -1,5 +1,5 @@
-/* Writes what is wrong with some tables of three radios, as the README has it. Compiled as C and as
- * C++, so that the header is right for both. */
+/* Writes what is wrong with some tables of three radios, as the README has it, and that a handheld
+ * is no fault. Compiled as C and as C++, so that the header is right for both. */
 #include <stdio.h>
 
 #include "fogsignaller.h"
@@ -9,9 +9,9 @@ enum { RADIOS = 3, CELLS = RADIOS * RADIOS };
 /* Three radios in a row, 0-1-2, but for the fault. */
 static const uint8_t tables[][CELLS] = {
     {0, 1, 0, 0, 0, 1, 0, 1, 0}, /* radio 1 knows nothing of its link to radio 0 */
-    {0, 1, 0, 1, 1, 1, 0, 1, 0}, /* radio 1 names itself */
     {0, 1, 0, 1, 0, 7, 0, 1, 0}, /* a typing error */
-    {0, 1, 0, 7, 1, 1, 0, 1, 0}, /* all three: the first cell in row order is told */
+    {0, 1, 0, 7, 2, 1, 0, 1, 0}, /* both: the first cell in row order is told */
+    {0, 1, 0, 1, 1, 1, 0, 1, 0}, /* no fault: radio 1 is a handheld */
 };
 
 static uint8_t log_bytes[FOG_LOG_ALWAYS_ENOUGH];
@@ -26,9 +26,6 @@ static void write_fault(size_t n, struct fog_outcome found) {
     case FOG_CELL_VALUE:
         printf("the cell of radios %zu and %zu is not 0 or 1\n", row, column);
         break;
-    case FOG_CELL_DIAGONAL:
-        printf("radio %zu is linked to itself\n", row);
-        break;
     case FOG_CELL_MIRROR:
         printf("radios %zu and %zu do not say the same of their link\n", row, column);
         break;
@@ -39,8 +36,13 @@ static void write_fault(size_t n, struct fog_outcome found) {
 
 int main(void) {
     for (size_t at = 0; at < sizeof tables / sizeof tables[0]; at++) {
-        write_fault(RADIOS, fog_survey(RADIOS, tables[at], CELLS, 0, 2, 1, log_bytes,
-                                       sizeof log_bytes, paths, sizeof paths, cut, sizeof cut));
+        struct fog_outcome found =
+            fog_survey(RADIOS, tables[at], CELLS, 0, 2, 1, log_bytes, sizeof log_bytes, paths,
+                       sizeof paths, cut, sizeof cut);
+        if (found.refusal == FOG_ACCEPTED)
+            printf("accepted: %zu of 1 paths\n", found.paths);
+        else
+            write_fault(RADIOS, found);
     }
     return 0;
 }

@@ -128,14 +128,19 @@ struct Tally {
     by_kind: BTreeMap<String, usize>,
     damaged: usize,
     damaged_and_accepted: usize,
+    with_hands: usize,
+    with_hands_and_accepted: usize,
     longest_sheet: usize,
 }
 
 impl Tally {
     fn add(&mut self, text: &Text, sheet: &str) {
         *self.by_kind.entry(kind_of(sheet)).or_default() += 1;
+        let is_accepted = sheet.starts_with("report");
         self.damaged += usize::from(text.is_damaged);
-        self.damaged_and_accepted += usize::from(text.is_damaged && sheet.starts_with("report"));
+        self.damaged_and_accepted += usize::from(text.is_damaged && is_accepted);
+        self.with_hands += usize::from(text.has_hands);
+        self.with_hands_and_accepted += usize::from(text.has_hands && is_accepted);
         self.longest_sheet = self.longest_sheet.max(sheet.len());
     }
 
@@ -145,6 +150,8 @@ impl Tally {
         }
         self.damaged += other.damaged;
         self.damaged_and_accepted += other.damaged_and_accepted;
+        self.with_hands += other.with_hands;
+        self.with_hands_and_accepted += other.with_hands_and_accepted;
         self.longest_sheet = self.longest_sheet.max(other.longest_sheet);
     }
 
@@ -158,10 +165,12 @@ impl Tally {
             .map(|kind| format!("{kind}: {}", self.count(kind)))
             .collect();
         format!(
-            "{}; {} damaged ({} of them accepted), the longest sheet {} bytes",
+            "{}; {} damaged ({} of them accepted), {} with hand lines ({} of them accepted), the longest sheet {} bytes",
             counts.join(", "),
             self.damaged,
             self.damaged_and_accepted,
+            self.with_hands,
+            self.with_hands_and_accepted,
             self.longest_sheet
         )
     }

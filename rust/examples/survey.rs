@@ -2,7 +2,7 @@
 
 use std::error::Error;
 
-use fogsignaller::{survey, Question};
+use fogsignaller::{survey, Map};
 
 const RADIOS: usize = 8;
 const LINKS: [(usize, usize); 9] = [
@@ -18,18 +18,11 @@ const LINKS: [(usize, usize); 9] = [
 ];
 
 fn main() -> Result<(), Box<dyn Error>> {
-    let mut table = [0; RADIOS * RADIOS];
+    let mut map = Map::new(RADIOS)?;
     for (one, other) in LINKS {
-        table[one * RADIOS + other] = 1;
-        table[other * RADIOS + one] = 1;
+        map.link(one, other)?;
     }
-    let question = Question {
-        radios: RADIOS,
-        table: &table,
-        source: 0,
-        destination: 7,
-        wanted: 3,
-    };
+    let question = map.question(0, 7, 3);
     let found = survey(&question)?;
     println!(
         "{}: {} of {} paths after {} rounds and {} messages",

@@ -29,25 +29,36 @@
 //! # Ok::<(), fogsignaller::Refusal>(())
 //! ```
 //!
+//! A [`Map`] makes the table. A handheld is linked as other radios are, but does not pass on what it
+//! hears, so that no path leads over it; as S or T it is an ordinary radio:
+//!
+//! ```
+//! use fogsignaller::{survey, CutItem, Map};
+//!
+//! // 0-1-3 and 0-2-3. Radio 1 is a handheld.
+//! let mut map = Map::new(4)?;
+//! map.link(0, 1)?.link(1, 3)?.link(0, 2)?.link(2, 3)?;
+//! map.handheld(1)?;
+//! let found = survey(&map.question(0, 3, 2))?;
+//! assert_eq!(found.paths().collect::<Vec<_>>(), [[0, 2, 3]]);
+//! assert_eq!(found.cut().collect::<Vec<_>>(), [CutItem::Radio(2)]);
+//!
+//! // From the handheld itself two paths lead to radio 2.
+//! let found = survey(&map.question(1, 2, 2))?;
+//! assert_eq!(found.paths().collect::<Vec<_>>(), [[1, 0, 2], [1, 3, 2]]);
+//! # Ok::<(), Box<dyn std::error::Error>>(())
+//! ```
+//!
 //! Each radio's record, here those of map Q of the scope paper:
 //!
 //! ```
-//! use fogsignaller::{survey, Question, Role, Route, ROUTES_ALWAYS_ENOUGH};
+//! use fogsignaller::{survey, Map, Role, Route, ROUTES_ALWAYS_ENOUGH};
 //!
-//! let links = [(0, 1), (0, 4), (1, 2), (1, 6), (2, 3), (2, 5), (3, 4), (3, 7), (6, 7)];
-//! let mut table = [0; 8 * 8];
-//! for (one, other) in links {
-//!     table[one * 8 + other] = 1;
-//!     table[other * 8 + one] = 1;
+//! let mut map = Map::new(8)?;
+//! for (one, other) in [(0, 1), (0, 4), (1, 2), (1, 6), (2, 3), (2, 5), (3, 4), (3, 7), (6, 7)] {
+//!     map.link(one, other)?;
 //! }
-//! let question = Question {
-//!     radios: 8,
-//!     table: &table,
-//!     source: 0,
-//!     destination: 7,
-//!     wanted: 3,
-//! };
-//! let found = survey(&question)?;
+//! let found = survey(&map.question(0, 7, 3))?;
 //! assert_eq!(found.paths().collect::<Vec<_>>(), [[0, 1, 6, 7], [0, 4, 3, 7]]);
 //!
 //! let mut records = [Route::default(); ROUTES_ALWAYS_ENOUGH];
@@ -75,7 +86,7 @@
 //!     without_path(Role::Sink),
 //! ];
 //! assert_eq!(routes, expected);
-//! # Ok::<(), fogsignaller::Refusal>(())
+//! # Ok::<(), Box<dyn std::error::Error>>(())
 //! ```
 //!
 //! A question that is not in order is refused, with the reason in words. Where a cell of the table
@@ -122,8 +133,9 @@ pub const PATHS_ALWAYS_ENOUGH: usize = 86;
 /// A cut list of this length is enough for every accepted call: one item a path.
 pub const CUT_ALWAYS_ENOUGH: usize = 8;
 /// A record list of this length is enough for every accepted call: one record a radio.
-pub const ROUTES_ALWAYS_ENOUGH: usize = 64;
+pub const ROUTES_ALWAYS_ENOUGH: usize = MOST_RADIOS;
 
+const MOST_RADIOS: usize = 64;
 const BYTES_A_MESSAGE: usize = 4;
 const DIRECT_LINK: u8 = 255;
 
@@ -132,7 +144,8 @@ const DIRECT_LINK: u8 = 255;
 pub struct Question<'table> {
     /// n, 2 to 64. Radios are numbered from 0.
     pub radios: usize,
-    /// n·n bytes, row by row: cell i·n+j is 1 if radios i and j are linked, else 0.
+    /// n·n bytes, row by row: cell i·n+j is 1 if radios i and j are linked, else 0. Cell i·n+i is 1
+    /// if radio i is a handheld, else 0. A [`Map`] makes such a table.
     pub table: &'table [u8],
     /// S, where the paths begin.
     pub source: usize,
@@ -142,10 +155,98 @@ pub struct Question<'table> {
     pub wanted: usize,
 }
 
+/// Radios, their links and which of them are handhelds: a table for [`Question`]s, made link by link.
+/// It allocates nothing.
+#[derive(Clone, Debug, PartialEq, Eq)]
+pub struct Map {
+    radios: usize,
+    cells: [u8; MOST_RADIOS * MOST_RADIOS],
+}
+
+impl Map {
+    /// So many radios, numbered from 0, without a link and none of them a handheld. A map has room
+    /// for 64; more are refused here, and fewer than 2 by the survey.
+    pub fn new(radios: usize) -> Result<Map, Refusal> {
+        if radios > MOST_RADIOS {
+            return Err(Refusal::NumberOfRadios);
+        }
+        Ok(Map {
+            radios,
+            cells: [0; MOST_RADIOS * MOST_RADIOS],
+        })
+    }
+
+    /// Links two radios, which may be linked already. The link has no direction.
+    pub fn link(&mut self, one: usize, other: usize) -> Result<&mut Map, MapFault> {
+        if one == other {
+            return Err(MapFault::LinkToItself(one));
+        }
+        let (there, back) = (self.place(one, other)?, self.place(other, one)?);
+        self.cells[there] = 1;
+        self.cells[back] = 1;
+        Ok(self)
+    }
+
+    /// Makes a radio a handheld, which it may be already: it keeps its links, and does not pass on
+    /// what it hears.
+    pub fn handheld(&mut self, radio: usize) -> Result<&mut Map, MapFault> {
+        let own = self.place(radio, radio)?;
+        self.cells[own] = 1;
+        Ok(self)
+    }
+
+    /// The table as the library reads it.
+    pub fn table(&self) -> &[u8] {
+        &self.cells[..self.radios * self.radios]
+    }
+
+    /// Asks for so many paths from a source to a destination.
+    pub fn question(&self, source: usize, destination: usize, wanted: usize) -> Question<'_> {
+        Question {
+            radios: self.radios,
+            table: self.table(),
+            source,
+            destination,
+            wanted,
+        }
+    }
+
+    fn place(&self, row: usize, column: usize) -> Result<usize, MapFault> {
+        let is_missing = |radio: &usize| *radio >= self.radios;
+        match [row, column].into_iter().find(is_missing) {
+            Some(radio) => Err(MapFault::NoSuchRadio(radio)),
+            None => Ok(row * self.radios + column),
+        }
+    }
+}
+
+/// Why a link or a handheld cannot be put on a [`Map`].
+#[derive(Clone, Copy, Debug, PartialEq, Eq, Hash)]
+pub enum MapFault {
+    /// The radio's number is not below n.
+    NoSuchRadio(usize),
+    /// No radio is linked to itself.
+    LinkToItself(usize),
+}
+
+impl fmt::Display for MapFault {
+    fn fmt(&self, formatter: &mut fmt::Formatter<'_>) -> fmt::Result {
+        match self {
+            MapFault::NoSuchRadio(radio) => write!(formatter, "the map has no radio {radio}"),
+            MapFault::LinkToItself(radio) => {
+                write!(formatter, "radio {radio} cannot be linked to itself")
+            }
+        }
+    }
+}
+
+impl Error for MapFault {}
+
 /// The three buffers that a caller lends to [`survey_into`].
 ///
 /// The log needs 4·(2k+1)·A bytes, where A = 2m − deg S − deg T + (1 if S and T are linked,
-/// else 0) + n − 2 and m is the number of links. The path list needs n−2+3k bytes, the cut list k.
+/// else 0) + n − 2 − h, m is the number of links and h that of the handhelds other than S and T. The
+/// path list needs n−2+3k bytes, the cut list k.
 /// [`LOG_ALWAYS_ENOUGH`], [`PATHS_ALWAYS_ENOUGH`] and [`CUT_ALWAYS_ENOUGH`] are enough for all.
 #[derive(Debug)]
 pub struct Buffers<'buffers> {
@@ -157,7 +258,7 @@ pub struct Buffers<'buffers> {
     pub cut: &'buffers mut [u8],
 }
 
-/// A cell of the table: what it says of two radios.
+/// A cell of the table: what it says of two radios, or on the diagonal of one.
 #[derive(Clone, Copy, Debug, PartialEq, Eq, Hash)]
 pub struct Cell {
     /// Where it stands in the table, row by row, counted from 0: row·n + column.
@@ -192,9 +293,10 @@ impl fmt::Display for Cell {
 /// Why a call was refused. They are tried in this order, and the first that holds is given; the
 /// last two and the first are those of a path list.
 ///
-/// The three of a cell speak of the first bad cell of the table in row order, and are tried there
+/// The two of a cell speak of the first bad cell of the table in row order, and are tried there
 /// before the next cell is looked at. In 1.x they were one, `Refusal::Cell { place }`: where a
-/// program knew that, it has to know these three, or ask [`Refusal::cell`].
+/// program knew that, it has to know these two, or ask [`Refusal::cell`]. `Refusal::CellDiagonal` of
+/// 2.x is gone: a 1 on the diagonal is a handheld.
 #[derive(Clone, Copy, Debug, PartialEq, Eq, Hash)]
 pub enum Refusal {
     /// n is below 2 or above 64.
@@ -203,8 +305,6 @@ pub enum Refusal {
     TableLength,
     /// The cell is not 0 or 1.
     CellValue(Cell),
-    /// The cell is 1 and on the diagonal: a radio is linked to itself.
-    CellDiagonal(Cell),
     /// The cell is 0 or 1 and differs from its mirror cell, as where one radio says that the two
     /// are linked and the other that they are not.
     CellMirror(Cell),
@@ -226,13 +326,12 @@ pub enum Refusal {
 }
 
 impl Refusal {
-    /// The number that this refusal has in every language: 1 to 8, 12, 13, 20 or 21.
+    /// The number that this refusal has in every language: 1 to 8, 13, 20 or 21.
     pub fn number(self) -> usize {
         match self {
             Refusal::NumberOfRadios => 1,
             Refusal::TableLength => 2,
             Refusal::CellValue(_) => 3,
-            Refusal::CellDiagonal(_) => 12,
             Refusal::CellMirror(_) => 13,
             Refusal::TooManyLinks => 4,
             Refusal::Ends => 5,
@@ -247,9 +346,7 @@ impl Refusal {
     /// The bad cell, where there is one.
     pub fn cell(self) -> Option<Cell> {
         match self {
-            Refusal::CellValue(cell) | Refusal::CellDiagonal(cell) | Refusal::CellMirror(cell) => {
-                Some(cell)
-            }
+            Refusal::CellValue(cell) | Refusal::CellMirror(cell) => Some(cell),
             _ => None,
         }
     }
@@ -261,7 +358,6 @@ impl Refusal {
             1 => Some(Refusal::NumberOfRadios),
             2 => Some(Refusal::TableLength),
             3 => Some(Refusal::CellValue(Cell::at(place, radios))),
-            12 => Some(Refusal::CellDiagonal(Cell::at(place, radios))),
             13 => Some(Refusal::CellMirror(Cell::at(place, radios))),
             4 => Some(Refusal::TooManyLinks),
             5 => Some(Refusal::Ends),
@@ -288,11 +384,6 @@ impl fmt::Display for Refusal {
                 "the table's length is not the number of radios times itself"
             ),
             Refusal::CellValue(cell) => write!(formatter, "the table's {cell} is not 0 or 1"),
-            Refusal::CellDiagonal(cell) => write!(
-                formatter,
-                "radio {} is linked to itself: the table's {cell} is 1",
-                cell.row
-            ),
             Refusal::CellMirror(cell) => write!(
                 formatter,
                 "radio {} and radio {} do not say the same of their link: \

@@ -1,7 +1,7 @@
-//! The wrapper through the static library: each refusal, lent and own buffers, the iterators.
+//! The wrapper through the static library: maps, each refusal, lent and own buffers, the iterators.
 
 use fogsignaller::{
-    survey, survey_into, Buffers, Cell, CutItem, Kind, Message, Question, Refusal,
+    survey, survey_into, Buffers, Cell, CutItem, Kind, Map, MapFault, Message, Question, Refusal,
     CUT_ALWAYS_ENOUGH, LOG_ALWAYS_ENOUGH, PATHS_ALWAYS_ENOUGH,
 };
 
@@ -58,12 +58,98 @@ fn no_link_gives_no_path_and_no_cut_item() {
     assert_eq!((found.rounds(), found.messages().len()), (1, 0));
 }
 
+/// The map with these links and handhelds.
+fn map_of(radios: usize, links: &[(usize, usize)], handhelds: &[usize]) -> Map {
+    let mut map = Map::new(radios).expect("a map has room for so many");
+    for &(one, other) in links {
+        map.link(one, other).expect("two radios of the map");
+    }
+    for &radio in handhelds {
+        map.handheld(radio).expect("a radio of the map");
+    }
+    map
+}
+
+#[test]
+fn map_makes_the_table() {
+    let map = map_of(3, &[(0, 1), (2, 1), (1, 0)], &[2, 2]);
+    assert_eq!(map.table(), [0, 1, 0, 1, 0, 1, 0, 1, 1]);
+    let question = map.question(2, 0, 4);
+    assert_eq!((question.radios, question.table), (3, map.table()));
+    let (source, destination) = (question.source, question.destination);
+    assert_eq!((source, destination, question.wanted), (2, 0, 4));
+    assert!(Map::new(0).expect("no radios").table().is_empty());
+    assert_eq!(Map::new(64).expect("64 radios").table().len(), 64 * 64);
+}
+
+#[test]
+fn map_refuses_what_it_cannot_hold_and_stays_as_it_was() {
+    let mut map = map_of(3, &[(0, 1)], &[0]);
+    let before = map.clone();
+    assert_eq!(map.link(0, 3), Err(MapFault::NoSuchRadio(3)));
+    assert_eq!(map.link(3, 0), Err(MapFault::NoSuchRadio(3)));
+    assert_eq!(map.link(1, 1), Err(MapFault::LinkToItself(1)));
+    assert_eq!(map.handheld(3), Err(MapFault::NoSuchRadio(3)));
+    assert_eq!(
+        map.handheld(usize::MAX),
+        Err(MapFault::NoSuchRadio(usize::MAX))
+    );
+    assert_eq!(map, before);
+    assert_eq!(Map::new(65), Err(Refusal::NumberOfRadios));
+    assert_eq!(Map::new(usize::MAX), Err(Refusal::NumberOfRadios));
+    let lone = Map::new(1).expect("the survey refuses it");
+    assert_eq!(
+        survey(&lone.question(0, 0, 1)),
+        Err(Refusal::NumberOfRadios)
+    );
+}
+
+#[test]
+fn no_path_leads_over_a_handheld() {
+    let chain = [(0, 1), (1, 2)];
+    let map = map_of(3, &chain, &[1]);
+    let found = survey(&map.question(0, 2, 1)).expect("a chain with a handheld is a map");
+    assert!(!found.is_full());
+    assert_eq!((found.paths().len(), found.cut().len()), (0, 0));
+    // S asks the handheld, which has nobody to ask.
+    assert_eq!((found.rounds(), found.messages().len()), (1, 2));
+    assert_eq!(found.log_bytes(), [1, 1, 1, 2, 2, 1, 2, 1]);
+
+    let around = [(0, 1), (1, 3), (0, 2), (2, 3), (1, 2)];
+    let map = map_of(4, &around, &[1]);
+    let found = survey(&map.question(0, 3, 2)).expect("one way leads around the handheld");
+    assert_eq!(found.paths().collect::<Vec<_>>(), [[0, 2, 3]]);
+    assert_eq!(found.cut().collect::<Vec<_>>(), [CutItem::Radio(2)]);
+}
+
+#[test]
+fn source_and_destination_are_no_handhelds() {
+    let chain = [(0, 1), (1, 2)];
+    let plain = map_of(3, &chain, &[]);
+    let plain = survey(&plain.question(0, 2, 2)).expect("a chain is a map");
+    for handhelds in [&[0][..], &[2], &[0, 2]] {
+        let map = map_of(3, &chain, handhelds);
+        assert_eq!(survey(&map.question(0, 2, 2)).as_ref(), Ok(&plain));
+    }
+}
+
+#[test]
+fn handhelds_make_the_log_shorter_by_a_step_each() {
+    let around = [(0, 1), (1, 3), (0, 2), (2, 3), (1, 2)];
+    // A is 8 without handhelds; S and T do not count among them.
+    for (handhelds, steps) in [(&[][..], 8), (&[0, 3], 8), (&[1], 7), (&[0, 1, 2, 3], 6)] {
+        let map = map_of(4, &around, handhelds);
+        let question = map.question(0, 3, 1);
+        let log = 4 * 3 * steps;
+        assert!(lend(&question, log, 5, 1).is_ok());
+        assert_eq!(lend(&question, log - 1, 5, 1), Err(Refusal::LogTooShort));
+    }
+}
+
 #[test]
 fn each_refusal_of_a_question_has_its_number() {
-    let mut crowded = vec![1; 24 * 24];
-    for radio in 0..24 {
-        crowded[radio * 24 + radio] = 0;
-    }
+    // Every cell is 1: 24 handhelds, and more links than a map may have.
+    let crowded = vec![1; 24 * 24];
     let cases = [
         (ask(1, &[0], 0, 0, 1), Refusal::NumberOfRadios, 1),
         (ask(65, &[0; 65 * 65], 0, 1, 1), Refusal::NumberOfRadios, 1),
@@ -75,9 +161,9 @@ fn each_refusal_of_a_question_has_its_number() {
             3,
         ),
         (
-            ask(2, &[0, 1, 1, 1], 0, 1, 1),
-            Refusal::CellDiagonal(cell(3, 1, 1)),
-            12,
+            ask(2, &[0, 1, 1, 2], 0, 1, 1),
+            Refusal::CellValue(cell(3, 1, 1)),
+            3,
         ),
         (
             ask(2, &[0, 1, 0, 0], 0, 1, 1),
@@ -110,10 +196,6 @@ fn first_bad_cell_is_told_by_its_first_fault() {
             Refusal::CellValue(cell(0, 0, 0)),
         ),
         (
-            [0, 0, 0, 0, 0, 0, 0, 0, 1],
-            Refusal::CellDiagonal(cell(8, 2, 2)),
-        ),
-        (
             [0, 0, 0, 0, 0, 0, 0, 0, 255],
             Refusal::CellValue(cell(8, 2, 2)),
         ),
@@ -130,18 +212,18 @@ fn first_bad_cell_is_told_by_its_first_fault() {
             [0, 0, 0, 0, 0, 2, 0, 1, 0],
             Refusal::CellValue(cell(5, 1, 2)),
         ),
-        // All three faults, and each comes first once.
+        // Both faults beside a handheld, which is none, and each comes first.
         (
             [0, 0, 2, 0, 1, 1, 2, 0, 0],
             Refusal::CellValue(cell(2, 0, 2)),
         ),
         (
             [1, 1, 2, 0, 0, 0, 2, 0, 0],
-            Refusal::CellDiagonal(cell(0, 0, 0)),
+            Refusal::CellMirror(cell(1, 0, 1)),
         ),
         (
-            [0, 1, 2, 0, 1, 0, 2, 0, 0],
-            Refusal::CellMirror(cell(1, 0, 1)),
+            [1, 0, 0, 0, 2, 1, 0, 0, 1],
+            Refusal::CellValue(cell(4, 1, 1)),
         ),
     ];
     for (table, expected) in cases {
@@ -160,11 +242,6 @@ fn refusal_of_a_cell_has_the_cell_and_names_its_radios() {
         (
             Refusal::CellValue(cell(5, 1, 2)),
             "refused 3: the table's cell at place 5 (row 1, column 2) is not 0 or 1",
-        ),
-        (
-            Refusal::CellDiagonal(cell(8, 2, 2)),
-            "refused 12: radio 2 is linked to itself: \
-             the table's cell at place 8 (row 2, column 2) is 1",
         ),
         (
             Refusal::CellMirror(cell(5, 1, 2)),
@@ -186,7 +263,6 @@ fn last_cells_of_the_largest_table_are_told() {
         table[place] = held;
         survey(&ask(64, &table, 0, 1, 1)).expect_err("this table is not in order")
     };
-    assert_eq!(last(4095, 1), Refusal::CellDiagonal(cell(4095, 63, 63)));
     assert_eq!(last(4095, 2), Refusal::CellValue(cell(4095, 63, 63)));
     assert_eq!(last(4031, 1), Refusal::CellMirror(cell(4031, 62, 63)));
     assert_eq!(last(4094, 1), Refusal::CellMirror(cell(4031, 62, 63)));

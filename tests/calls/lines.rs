@@ -8,7 +8,7 @@ use crate::route_sides::RouteTrial;
 use crate::routes::{RouteCall, RoutesLeft};
 
 /// The version of the rules that the library is held to: the number of requests that have landed.
-const VERSION: usize = 2;
+const VERSION: usize = 3;
 /// What a record held before, where there is none to tell.
 const NO_RECORD: [u8; 4] = [0; 4];
 
@@ -104,7 +104,7 @@ fn answer(asked: &str) -> Result<String, String> {
     Ok(write_left(&trial.library_leaves()?))
 }
 
-/// "run v=2 n=.. t=.. S=.. T=.. k=.. log=.. paths=.. cut=..", the fields in this order.
+/// "run v=.. n=.. t=.. S=.. T=.. k=.. log=.. paths=.. cut=..", the fields in this order.
 fn read_asked(asked: &str) -> Result<Call, String> {
     let names = ["v", "n", "t", "S", "T", "k", "log", "paths", "cut"];
     let [version, n, table, s, t, k, log, paths, cut] = read_fields(asked, "run", names)?;
@@ -123,7 +123,7 @@ fn read_asked(asked: &str) -> Result<Call, String> {
     })
 }
 
-/// "routes v=2 n=.. count=.. pl=.. records=.. was=..", the fields in this order.
+/// "routes v=.. n=.. count=.. pl=.. records=.. was=..", the fields in this order.
 fn read_routes_asked(asked: &str) -> Result<RouteCall, String> {
     let names = ["v", "n", "count", "pl", "records", "was"];
     let [version, n, count, list, records, was] = read_fields(asked, "routes", names)?;

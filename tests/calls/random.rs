@@ -4,7 +4,7 @@ use crate::both_sides::{Fill, Trial};
 use crate::chance::Chance;
 use crate::map::{Map, MOST_LINKS, MOST_WANTED};
 use crate::refusals::{Call, Lengths};
-use crate::shapes::{number_of_radios, random_ends, random_pairs};
+use crate::shapes::{number_of_radios, random_ends, random_handhelds, random_pairs};
 use crate::smaller::needed_by;
 use crate::smaller_maps::ENOUGH_FOR_ALL;
 
@@ -42,8 +42,11 @@ pub fn sound_call(chance: &mut Chance) -> Call {
     if chance.one_in(2) {
         chance.shuffle(&mut names);
     }
-    let map = map_of_pairs(radios, &pairs, &names, most_links);
-    let (source, destination) = random_ends(chance, radios);
+    let mut map = map_of_pairs(radios, &pairs, &names, most_links);
+    let ends @ (source, destination) = random_ends(chance, radios);
+    for radio in random_handhelds(chance, radios, ends) {
+        map.make_handheld(names[radio]);
+    }
     let mut call = Call {
         radios,
         table: map.table(),
@@ -178,8 +181,8 @@ fn spoil_length(table: &mut Vec<u8>, chance: &mut Chance) {
     }
 }
 
-/// Bad cells of all three kinds, one or several: the first of them may be of any kind, and so may
-/// the others.
+/// Bad cells of both kinds, one or several, on the diagonal and off it: the first of them may be of
+/// any kind, and so may the others. Beside them a radio may become a handheld.
 fn spoil_cells(call: &mut Call, chance: &mut Chance) {
     if call.table.is_empty() || call.radios == 0 {
         return;
@@ -208,8 +211,8 @@ fn spoil_cell(call: &mut Call, chance: &mut Chance) {
             put(place, value);
             put(place_of(column, row), value);
         }
-        3 => put(place_of(row, row), value),
-        4 | 5 => put(place_of(row, row), 1),
+        3 | 4 => put(place_of(row, row), value),
+        5 => put(place_of(row, row), 1),
         _ => call.table[place] ^= 1,
     }
 }

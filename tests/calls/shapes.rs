@@ -1,4 +1,5 @@
-//! The shapes of random sites: how many radios, which ends, which pairs are linked.
+//! The shapes of random sites: how many radios, which ends, which pairs are linked, which radios are
+//! handhelds.
 
 use crate::chance::Chance;
 use crate::map::{FEWEST_RADIOS, MOST_RADIOS};
@@ -20,6 +21,26 @@ pub fn random_ends(chance: &mut Chance, radios: usize) -> (usize, usize) {
     }
     let source = chance.below(radios);
     (source, (source + chance.between(1, radios - 1)) % radios)
+}
+
+/// Half of the sites have handhelds: from few inner radios to all of them, S and T by themselves or
+/// with those.
+pub fn random_handhelds(chance: &mut Chance, radios: usize, ends: (usize, usize)) -> Vec<usize> {
+    if chance.one_in(2) {
+        return Vec::new();
+    }
+    let percent = match chance.below(8) {
+        0 => 0,
+        1 => 100,
+        2 | 3 => chance.between(1, 100),
+        _ => chance.between(1, 25),
+    };
+    let mut handhelds: Vec<usize> = (0..radios).collect();
+    handhelds.retain(|&radio| match radio == ends.0 || radio == ends.1 {
+        true => chance.one_in(3),
+        false => chance.below(100) < percent,
+    });
+    handhelds
 }
 
 /// Pairs to link in a random order; some shapes name a pair twice.

@@ -29,22 +29,22 @@ pub fn copy_of(call: &Call) -> Call {
     }
 }
 
-/// Fewer radios, fewer links, or fewer paths wanted, the largest steps first.
+/// Fewer radios, fewer links and handhelds, or fewer paths wanted, the largest steps first.
 pub fn smaller_questions(call: &Call) -> impl Iterator<Item = Call> + '_ {
     let has_map = call.radios <= MOST_RADIOS && call.table.len() == call.radios * call.radios;
     let radios = if has_map { call.radios } else { 0 };
     let inner: Vec<usize> = (0..radios)
         .filter(|&radio| radio != call.source && radio != call.destination)
         .collect();
-    // Cells out of order count as links, those on the diagonal too.
-    let links: Vec<(usize, usize)> = (0..radios)
+    // Links and handhelds, and cells out of order with them.
+    let cells: Vec<(usize, usize)> = (0..radios)
         .flat_map(|upper| (0..=upper).map(move |lower| (lower, upper)))
         .filter(|&(lower, upper)| {
             call.table[lower * radios + upper] != 0 || call.table[upper * radios + lower] != 0
         })
         .collect();
     // A radio of a chain cannot be left out without breaking it, but joined with the next one.
-    let joined: Vec<(usize, usize)> = links
+    let joined: Vec<(usize, usize)> = cells
         .iter()
         .flat_map(|&(lower, upper)| [(lower, upper), (upper, lower)])
         .filter(|&(kept, gone)| kept != gone && inner.contains(&gone))
@@ -53,13 +53,13 @@ pub fn smaller_questions(call: &Call) -> impl Iterator<Item = Call> + '_ {
         .into_iter()
         .map(move |(kept, gone)| with_joined(call, kept, gone));
     let fewer_radios = runs(inner.len()).map(move |run| without_radios(call, &inner[run]));
-    let fewer_links = runs(links.len()).map(move |run| without_links(call, &links[run]));
+    let fewer_cells = runs(cells.len()).map(move |run| without_cells(call, &cells[run]));
     let fewer_wanted = lower_numbers(1, call.wanted).map(|wanted| Call {
         wanted,
         ..copy_of(call)
     });
     fewer_radios
-        .chain(fewer_links)
+        .chain(fewer_cells)
         .chain(fewer_wanted)
         .chain(joined)
 }
@@ -115,7 +115,7 @@ fn with_joined(call: &Call, kept: usize, gone: usize) -> Call {
     without_radios(&smaller, &[gone])
 }
 
-fn without_links(call: &Call, gone: &[(usize, usize)]) -> Call {
+fn without_cells(call: &Call, gone: &[(usize, usize)]) -> Call {
     let mut smaller = copy_of(call);
     for &(lower, upper) in gone {
         smaller.table[lower * call.radios + upper] = 0;

@@ -4,12 +4,13 @@ use std::collections::BTreeMap;
 
 use crate::random_calls;
 use crate::random_routes;
+use crate::refusals::Call;
 use crate::smaller;
 use crate::smaller_routes;
 use crate::work::Tally;
 
 /// Each call's refusal numbers, 0 for none, in the order in which they are tried.
-const OF_SURVEYS: [usize; 11] = [0, 1, 2, 3, 12, 13, 4, 5, 6, 7, 8];
+const OF_SURVEYS: [usize; 10] = [0, 1, 2, 3, 13, 4, 5, 6, 7, 8];
 const OF_ROUTES: [usize; 4] = [0, 1, 20, 21];
 
 /// How many calls had a number: that of their refusal, 0 for none, or that of their paths.
@@ -33,8 +34,18 @@ impl Counts {
         self.by_number.get(&number).copied().unwrap_or(0)
     }
 
-    fn left_out(&self, numbers: &[usize]) -> Option<usize> {
-        numbers.iter().copied().find(|&number| self.of(number) == 0)
+    /// Each of these numbers has to come, and no other may.
+    fn fault(&self, numbers: &[usize]) -> Option<String> {
+        let left_out = numbers.iter().find(|&&number| self.of(number) == 0);
+        let unknown = self
+            .by_number
+            .keys()
+            .find(|number| !numbers.contains(number));
+        match (left_out, unknown) {
+            (Some(number), _) => Some(format!("none had refusal number {number}: try more")),
+            (_, Some(number)) => Some(format!("there is no refusal number {number}")),
+            (None, None) => None,
+        }
     }
 
     fn write_from(&self, least: usize) -> String {
@@ -62,6 +73,47 @@ pub struct Surveys {
     most_messages: usize,
     full: usize,
     most_paths: usize,
+    handhelds: Handhelds,
+}
+
+/// How many accepted calls had them.
+#[derive(Default)]
+struct Handhelds {
+    at_an_end: usize,
+    among_the_others: usize,
+    all_others: usize,
+}
+
+impl Handhelds {
+    fn add(&mut self, call: &Call) {
+        let cell = |radio: &usize| call.table[radio * call.radios + radio];
+        let (ends, others): (Vec<usize>, Vec<usize>) =
+            (0..call.radios).partition(|&radio| radio == call.source || radio == call.destination);
+        let handhelds = others.iter().filter(|radio| cell(radio) == 1).count();
+        self.at_an_end += usize::from(ends.iter().any(|radio| cell(radio) == 1));
+        self.among_the_others += usize::from(handhelds > 0);
+        self.all_others += usize::from(handhelds > 0 && handhelds == others.len());
+    }
+
+    fn join(&mut self, other: Handhelds) {
+        self.at_an_end += other.at_an_end;
+        self.among_the_others += other.among_the_others;
+        self.all_others += other.all_others;
+    }
+
+    fn write(&self) -> String {
+        format!(
+            "S or T a handheld in {}, another radio in {}, all others in {}",
+            self.at_an_end, self.among_the_others, self.all_others
+        )
+    }
+
+    fn fault(&self) -> Option<String> {
+        let counts = [self.at_an_end, self.among_the_others, self.all_others];
+        counts
+            .contains(&0)
+            .then(|| format!("{}: try more", self.write()))
+    }
 }
 
 impl Tally for Surveys {
@@ -77,7 +129,10 @@ impl Tally for Surveys {
         self.messages += numbers.messages;
         self.most_messages = self.most_messages.max(numbers.messages);
         self.most_paths = self.most_paths.max(numbers.paths);
-        self.full += usize::from(numbers.refusal == 0 && numbers.paths == trial.call.wanted);
+        if numbers.refusal == 0 {
+            self.full += usize::from(numbers.paths == trial.call.wanted);
+            self.handhelds.add(&trial.call);
+        }
         true
     }
 
@@ -87,22 +142,25 @@ impl Tally for Surveys {
         self.most_messages = self.most_messages.max(other.most_messages);
         self.most_paths = self.most_paths.max(other.most_paths);
         self.full += other.full;
+        self.handhelds.join(other.handhelds);
     }
 
     fn write(&self) -> String {
         format!(
-            "accepted {} ({} full, at most {} paths and {} messages, {} messages in all); refused by number {}",
+            "accepted {} ({} full, at most {} paths and {} messages, {} messages in all; {}); refused by number {}",
             self.by_refusal.of(0),
             self.full,
             self.most_paths,
             self.most_messages,
             self.messages,
+            self.handhelds.write(),
             self.by_refusal.write_from(1)
         )
     }
 
-    fn left_out(&self) -> Option<usize> {
-        self.by_refusal.left_out(&OF_SURVEYS)
+    fn fault(&self) -> Option<String> {
+        let of_numbers = self.by_refusal.fault(&OF_SURVEYS);
+        of_numbers.or_else(|| self.handhelds.fault())
     }
 
     fn describe_difference(seed: u64, number: usize) -> String {
@@ -155,8 +213,8 @@ impl Tally for Routes {
         )
     }
 
-    fn left_out(&self) -> Option<usize> {
-        self.by_refusal.left_out(&OF_ROUTES)
+    fn fault(&self) -> Option<String> {
+        self.by_refusal.fault(&OF_ROUTES)
     }
 
     fn describe_difference(seed: u64, number: usize) -> String {

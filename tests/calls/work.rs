@@ -19,8 +19,8 @@ pub trait Tally: Default + Send {
     fn join(&mut self, other: Self);
     fn write(&self) -> String;
 
-    /// A refusal number that no case had: such cases would compare less than they say.
-    fn left_out(&self) -> Option<usize>;
+    /// What the cases left out, since they would compare less than they say, or what may not come.
+    fn fault(&self) -> Option<String>;
 
     /// The case in words, made smaller.
     fn describe_difference(seed: u64, number: usize) -> String;
@@ -44,11 +44,8 @@ pub fn try_all<Kind: Tally>(seed: u64, count: usize) -> Result<(), String> {
         return Err(Kind::describe_difference(seed, number));
     }
     println!("{}", tally.write());
-    if let Some(number) = tally.left_out() {
-        let cases = Kind::CASES;
-        return Err(format!(
-            "none had refusal number {number}: try more {cases}"
-        ));
+    if let Some(fault) = tally.fault() {
+        return Err(fault);
     }
     println!("{count} {} equal", Kind::CASES);
     Ok(())

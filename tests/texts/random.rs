@@ -6,8 +6,8 @@ use std::collections::HashSet;
 use crate::capture::write_capture;
 use crate::chance::Chance;
 use crate::map::{MOST_LINKS, MOST_WANTED};
-use crate::shapes::{number_of_radios, random_ends, random_pairs};
-use crate::sheet::MOST_BYTES;
+use crate::shapes::{number_of_radios, random_ends, random_handhelds, random_pairs};
+use crate::sheet::{Record, MOST_BYTES};
 
 /// Every third text is damaged.
 const DAMAGED_ONE_IN: usize = 3;
@@ -18,6 +18,7 @@ const LARGEST_NUMBER: usize = 65_535;
 
 pub struct Text {
     pub bytes: Vec<u8>,
+    pub has_hands: bool,
     pub is_damaged: bool,
     pub in_parts: bool,
 }
@@ -31,6 +32,8 @@ pub fn text_of(seed: u64, number: usize) -> Text {
         }
     }
     let mut bytes = plan.write();
+    let is_hand = |record: &Record| matches!(record, Record::Hand { .. });
+    let has_hands = plan.records.iter().any(is_hand);
     if chance.one_in(20) {
         let length = MOST_BYTES - 1 + chance.below(3);
         add_lines_up_to(&mut bytes, length, &mut chance);
@@ -43,6 +46,7 @@ pub fn text_of(seed: u64, number: usize) -> Text {
     }
     Text {
         bytes,
+        has_hands,
         is_damaged,
         in_parts: chance.one_in(IN_PARTS_ONE_IN),
     }
@@ -55,7 +59,7 @@ struct Plan {
     source: usize,
     destination: usize,
     wanted: usize,
-    links: Vec<(usize, usize)>,
+    records: Vec<Record>,
 }
 
 /// In order but for the number of links, which may be above 256.
@@ -72,13 +76,18 @@ fn sound_plan(chance: &mut Chance) -> Plan {
         chance.shuffle(&mut names);
     }
     let mut seen = HashSet::new();
-    let mut links: Vec<(usize, usize)> = random_pairs(chance, radios)
+    let mut records: Vec<Record> = random_pairs(chance, radios)
         .into_iter()
-        .map(|(one, other)| in_order(names[one], names[other]))
+        .map(|(one, other)| link_between(names[one], names[other]))
         .filter(|&link| seen.insert(link))
         .collect();
-    links.truncate(most_links);
-    let (source, destination) = random_ends(chance, radios);
+    records.truncate(most_links);
+    let ends @ (source, destination) = random_ends(chance, radios);
+    let handhelds = random_handhelds(chance, radios, ends).into_iter();
+    let hands = handhelds.map(|radio| Record::Hand {
+        radio: names[radio],
+    });
+    mix_in(&mut records, hands.collect(), chance);
     Plan {
         capture: chance.one_of(&[0, 1, 7, 9, 10, 255, 256, 9_999, 10_000, LARGEST_NUMBER]),
         radios,
@@ -86,12 +95,26 @@ fn sound_plan(chance: &mut Chance) -> Plan {
         destination: names[destination],
         // Few maps have many paths; few wanted make sheets that are full.
         wanted: chance.one_of(&[1, 1, 2, 2, 3, 4, 5, 6, 7, MOST_WANTED]),
-        links,
+        records,
     }
 }
 
-fn in_order(one: usize, other: usize) -> (usize, usize) {
-    (one.min(other), one.max(other))
+fn link_between(one: usize, other: usize) -> Record {
+    Record::Link {
+        first: one.min(other),
+        second: one.max(other),
+    }
+}
+
+/// The hand lines after the links, before them, or anywhere among them.
+fn mix_in(records: &mut Vec<Record>, hands: Vec<Record>, chance: &mut Chance) {
+    let links = records.len();
+    records.extend(hands);
+    match chance.below(4) {
+        0 => {}
+        1 => records.rotate_left(links),
+        _ => chance.shuffle(records),
+    }
 }
 
 impl Plan {
@@ -103,12 +126,12 @@ impl Plan {
             self.destination,
             self.wanted,
         ];
-        write_capture(first_line, &self.links).into_bytes()
+        write_capture(first_line, &self.records).into_bytes()
     }
 
     /// Puts one fault into the numbers; what is already at fault may be made sound by chance.
     fn spoil(&mut self, chance: &mut Chance) {
-        match chance.below(6) {
+        match chance.below(8) {
             0 => {
                 self.radios = chance.one_of(&[
                     0,
@@ -125,6 +148,7 @@ impl Plan {
                 self.wanted =
                     chance.one_of(&[0, 9, 10, 255, 256, self.wanted + 256, LARGEST_NUMBER])
             }
+            3 | 4 => self.spoil_hands(chance),
             _ => self.spoil_links(chance),
         }
     }
@@ -148,23 +172,48 @@ impl Plan {
 
     /// Turned round, to itself, to no radio, or one that came before, in the same order or turned.
     fn spoil_links(&mut self, chance: &mut Chance) {
-        if self.links.is_empty() {
-            self.links.push((1, 0));
-            return;
-        }
-        let (first, second) = chance.one_of(&self.links);
-        let link = match chance.below(8) {
+        let links = self.records.iter().filter_map(|record| match *record {
+            Record::Link { first, second } => Some((first, second)),
+            Record::Hand { .. } => None,
+        });
+        let links: Vec<(usize, usize)> = links.collect();
+        let (first, second) = match links.is_empty() {
+            true => (1, 0),
+            false => self.spoiled_link(chance.one_of(&links), chance),
+        };
+        self.insert(Record::Link { first, second }, chance);
+    }
+
+    fn spoiled_link(&self, link: (usize, usize), chance: &mut Chance) -> (usize, usize) {
+        let (first, second) = link;
+        match chance.below(8) {
             0 => (second, first),
             1 => (first, first),
             2 => (first, self.radios),
             3 => (first, second + 256),
             4 => (first + 256, second + 256),
             5 => (first, LARGEST_NUMBER),
-            _ => (first, second),
+            _ => link,
+        }
+    }
+
+    /// Twice the same radio, which may be one that is named already, or no radio of the map.
+    fn spoil_hands(&mut self, chance: &mut Chance) {
+        let any = chance.below(self.radios.max(1));
+        let beyond = [self.radios, self.radios + 1, any + 256, LARGEST_NUMBER];
+        let (radio, times) = match chance.below(2) {
+            0 => (any, 2),
+            _ => (chance.one_of(&beyond), 1),
         };
-        let anywhere = random_place(chance, self.links.len());
-        let place = chance.one_of(&[0, anywhere, self.links.len()]);
-        self.links.insert(place, link);
+        for _ in 0..times {
+            self.insert(Record::Hand { radio }, chance);
+        }
+    }
+
+    fn insert(&mut self, record: Record, chance: &mut Chance) {
+        let anywhere = random_place(chance, self.records.len());
+        let place = chance.one_of(&[0, anywhere, self.records.len()]);
+        self.records.insert(place, record);
     }
 }
 
@@ -230,7 +279,7 @@ const FIELDS: [&str; 17] = [
     "\u{0661}",
 ];
 
-const WORDS: [&str; 8] = [
+const WORDS: [&str; 9] = [
     "net",
     "link",
     "nets",
@@ -238,11 +287,32 @@ const WORDS: [&str; 8] = [
     "Link",
     "LINK",
     "hand",
+    "Hand",
     "\u{feff}net",
 ];
 
+/// Nearly a hand line; the last has the right shape.
+const HAND_LINES: [&str; 16] = [
+    "hand\n",
+    "hand\t\n",
+    "hand\t0\t1\n",
+    "hand\t0\t\n",
+    "hand\t\t0\n",
+    "hand\t00\n",
+    "hand\t01\n",
+    "hand\t-1\n",
+    "hand\t65536\n",
+    "hand\t0\r\n",
+    "hand 0\n",
+    "Hand\t0\n",
+    "hands\t0\n",
+    "han\t0\n",
+    "link\t0\n",
+    "hand\t0\n",
+];
+
 fn damage(bytes: &mut Vec<u8>, chance: &mut Chance) {
-    match chance.below(16) {
+    match chance.below(17) {
         0 => bytes.truncate(random_place(chance, bytes.len())),
         1 => change_byte(bytes, chance),
         2 => bytes.insert(random_place(chance, bytes.len()), chance.one_of(&BYTES)),
@@ -259,6 +329,7 @@ fn damage(bytes: &mut Vec<u8>, chance: &mut Chance) {
         }
         13 => lengthen(bytes, chance),
         14 => bytes.insert(random_place(chance, bytes.len()), 0),
+        15 => insert_line(bytes, chance.one_of(&HAND_LINES).as_bytes(), chance),
         _ => match chance.below(4) {
             0 => bytes.clear(),
             1 => bytes.push(b'\n'),
@@ -362,6 +433,12 @@ fn change_lines(bytes: &mut Vec<u8>, chance: &mut Chance) {
         2 => lines.insert(place, b"\n".to_vec()),
         _ => lines.swap(place, other),
     }
+    *bytes = lines.concat();
+}
+
+fn insert_line(bytes: &mut Vec<u8>, line: &[u8], chance: &mut Chance) {
+    let mut lines = lines_of(bytes);
+    lines.insert(random_place(chance, lines.len()), line.to_vec());
     *bytes = lines.concat();
 }
 

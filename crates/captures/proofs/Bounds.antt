@@ -1,4 +1,4 @@
--- No number of a line is above 65535. Assumes nothing.
+-- No number of a first line is above 65535. Assumes nothing.
 use mathlib.Core.Path.{_≡_, refl, sym, _∙_}
 use mathlib.Core.Bool.{Bool, true, false, cond, and-false, false≢true}
 use mathlib.Core.List.{List, [], _∷_, map}
@@ -8,14 +8,12 @@ use native.Mathlib.Omega.{arith}
 use lib.ListN.{getD, take}
 use borrow.Author.Tests.{lt-ltb}
 use Rattle.basics.proofs.Bools.{clash, and-left, and-right}
-use Rattle.captures.specs.Words.{tab, net, link}
+use Rattle.captures.specs.Words.{tab, net}
 use Rattle.captures.specs.Text.{same, value, isNumber, mostNumber}
-use Rattle.captures.specs.Capture.{headOf, lineOf}
-use Rattle.captures.specs.Reading.{endOf}
+use Rattle.captures.specs.Capture.{headOf}
+use Rattle.captures.specs.Reading.{endOf, piecesFrom, allNumbers, reading}
 use Rattle.captures.specs.declared.Head.the-variants.{Net, NoNet}
-use Rattle.captures.specs.declared.Line.the-variants.{Link, NoRecord}
-use Rattle.captures.proofs.Pieces.{piecesFrom}
-use Rattle.captures.proofs.Shapes.{allNumbers, reading, netOf, linkOf, head-shape, line-shape}
+use Rattle.captures.proofs.Shapes.{netOf, head-shape}
 
 -- ---- one number, and all of a line
 
@@ -33,7 +31,7 @@ values-most (suc n) [] h i = absurd (false≢true h)
 values-most (suc n) (field ∷ fields) h zero = value-most field (and-left (isNumber field) (allNumbers n fields) h)
 values-most (suc n) (field ∷ fields) h (suc i) = values-most n fields (and-right (isNumber field) (allNumbers n fields) h) i
 
--- ---- the two shapes
+-- ---- the first line
 
 -- of two answers it is the first, where it is not the second
 first-of-two : {A : Type 0} (b : Bool) (x y z : A) → cond b x y ≡ z → (y ≡ z → ⊥) → (b ≡ true) × (x ≡ z)
@@ -44,12 +42,6 @@ made : {A : Type 0} (n : ℕ) (make : List ℕ → A) (wrong : A) (fields : List
     → (allNumbers n fields ≡ true) × (make (map (value 0) fields) ≡ z)
 unfolding reading
 made n make wrong fields z e d = first-of-two (allNumbers n fields) (make (map (value 0) fields)) wrong z e d
-
-link-fields : (a b u v : ℕ) → Link a b ≡ Link u v → (a ≡ u) × (b ≡ v)
-link-fields a b u v e = (cc, cc)
-
-not-link : (u v : ℕ) → NoRecord ≡ Link u v → ⊥
-not-link u v q = let z : _≡_ {A = ℕ} 0 1 = cc in omega arith
 
 net-fields : (a b c d e capture n s t k : ℕ) → Net a b c d e ≡ Net capture n s t k → (a ≡ capture) × (b ≡ n) × (c ≡ s) × (d ≡ t) × (e ≡ k)
 net-fields a b c d e capture n s t k q = (cc, cc, cc, cc, cc)
@@ -63,16 +55,6 @@ module _ (line : List ℕ) where
 
   fields : List (List ℕ)
   fields = piecesFrom tab line (end + 1)
-
-  pub link-most : (u v : ℕ) → lineOf line ≡ Link u v → (u ≤ mostNumber) × (v ≤ mostNumber)
-  unfolding end fields
-  link-most u v e =
-      let word = same (take end line) link in
-      let told = first-of-two word (reading 2 linkOf NoRecord fields) NoRecord (Link u v) (sym (line-shape line end refl word refl) ∙ e) (not-link u v) in
-      let got = made 2 linkOf NoRecord fields (Link u v) (told .1) (not-link u v) in
-      let most = values-most 2 fields (got .0) in
-      let is = link-fields _ _ u v (got .1) in
-      (omega (arith, most 0, is .0), omega (arith, most 1, is .1))
 
   pub head-most : (capture n s t k : ℕ) → headOf line ≡ Net capture n s t k → (capture ≤ mostNumber) × (n ≤ mostNumber) × (s ≤ mostNumber) × (t ≤ mostNumber) × (k ≤ mostNumber)
   unfolding end fields

@@ -1,5 +1,5 @@
 -- Words and numbers byte by byte: what is known of a field after each byte. Assumes nothing.
-use mathlib.Core.Path.{_≡_, refl, ap, _∙_}
+use mathlib.Core.Path.{_≡_, refl, ap, ap₂, _∙_}
 use mathlib.Core.Bool.{Bool, true, false, not, _&&_, _||_, and-false}
 use mathlib.Core.List.{List, [], _∷_}
 use Prim.Native.Nat.{ℕ, suc, _+_, _-_, _*_, _≤_, _<_}
@@ -8,7 +8,8 @@ use native.Mathlib.Omega.{arith}
 use lib.Dec.{eqb}
 use lib.ListN.{length, getD, drop}
 use lib.Seq.{drop-cons}
-use borrow.Author.Tests.{eq-eqb, ne-eqb, lt-ltb, le-ltb}
+use borrow.Author.Tests.{eq-eqb, ne-eqb, eqb-true, lt-ltb, le-ltb}
+use Rattle.basics.proofs.Bools.{clash, and-left, and-right}
 use Rattle.captures.specs.Text.{same, isDigit, allDigits, value, mostNumber, numberOf}
 use Rattle.captures.specs.declared.Number.the-variants.{Is, NoNumber}
 
@@ -25,6 +26,14 @@ same-long (x ∷ field) (y ∷ word) d = rw (same-long field word (λ e. d (ap s
 pub same-nil : same [] [] ≡ true
 unfolding same
 same-nil = refl
+
+-- and a word is known by its bytes
+pub same-is : (field word : List ℕ) → same field word ≡ true → field ≡ word
+unfolding same
+same-is [] [] e = refl
+same-is [] (y ∷ word) e = clash e refl
+same-is (x ∷ field) [] e = clash e refl
+same-is (x ∷ field) (y ∷ word) e = ap₂ (λ (z : ℕ) (rest : List ℕ). z ∷ rest) (eqb-true x y (and-left (eqb x y) (same field word) e)) (same-is field word (and-right (eqb x y) (same field word) e))
 
 -- one byte of both
 module _ (field word : List ℕ) (i : ℕ) (p : i < length field) (q : i < length word) where

@@ -1,18 +1,18 @@
 -- The pieces of a text between separators: each begins past the separator that ends the one before. Assumes nothing.
 use mathlib.Core.Path.{_≡_, refl, sym, ap, _∙_}
-use mathlib.Core.Bool.{Bool, true, false, cond}
+use mathlib.Core.Bool.{Bool, true, false}
 use mathlib.Core.List.{List, [], _∷_}
 use Prim.Native.Nat.{ℕ, zero, suc, _+_, _-_, _≤_, _<_}
 use native.Mathlib.Decide.{decLt}
 use native.Mathlib.Omega.{arith}
-use lib.Dec.{eqb, ltb}
+use lib.Dec.{eqb}
 use lib.ListN.{length, getD, take, drop, length-drop}
 use lib.Seq.{drop-drop, getD-drop, take-all}
 use borrow.Author.Tests.{lt-ltb, le-ltb}
 use Rattle.basics.specs.Counting.{First, firstOf, firstFrom}
 use Rattle.basics.proofs.Counting.{first-from}
 use Rattle.captures.specs.Text.{pieces}
-use Rattle.captures.specs.Reading.{endOf, part}
+use Rattle.captures.specs.Reading.{endOf, part, piecesFrom}
 
 -- ---- the first that passes: here, further on, none
 
@@ -59,10 +59,6 @@ piece-last separator [] before = refl
 piece-last separator (x ∷ bytes) before = rw (before 0 (omega arith), piece-last separator bytes (λ j p. before (suc j) (omega arith)))
 
 -- ---- the pieces from a place on
-
--- none past the end
-abbrev pub piecesFrom : ℕ → List ℕ → ℕ → List (List ℕ)
-piecesFrom separator bytes at = cond (ltb (length bytes) at) [] (pieces separator (drop at bytes))
 
 pub pieces-from : (separator : ℕ) (bytes : List ℕ) (at : ℕ) → at ≤ length bytes → piecesFrom separator bytes at ≡ pieces separator (drop at bytes)
 pieces-from separator bytes at p = rw (le-ltb (length bytes) at p)

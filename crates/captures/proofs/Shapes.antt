@@ -1,23 +1,24 @@
 -- The shape of a line: its word, and as many numbers as it asks for, read field by field. Assumes nothing.
 use mathlib.Core.Path.{_≡_, refl, sym, ap, _∙_}
 use mathlib.Core.Bool.{Bool, true, false, _&&_, cond, and-assoc, and-true, and-false}
-use mathlib.Core.List.{List, [], _∷_, map}
-use Prim.Native.Nat.{ℕ, zero, suc, _+_, _-_, _≤_, _<_}
+use mathlib.Core.List.{List, [], _∷_}
+use Prim.Native.Nat.{ℕ, suc, _+_, _-_, _≤_, _<_}
 use native.Mathlib.Decide.{decLt}
 use native.Mathlib.Omega.{arith}
 use lib.Dec.{eqb}
 use lib.ListN.{length, getD, take}
 use borrow.Author.Tests.{lt-ltb, le-ltb, ne-eqb}
-use Rattle.captures.specs.Words.{tab, net, link}
+use Rattle.captures.specs.Words.{tab, net, link, hand}
 use Rattle.captures.specs.Text.{pieces, same, value, isNumber, numberOf}
 use Rattle.captures.specs.Capture.{headOf, lineOf}
-use Rattle.captures.specs.Reading.{endOf, part, holding, fieldAt}
+use Rattle.captures.specs.Reading.{endOf, part, piecesFrom, holding, fieldAt, reading, linkOf, handOf, afterLink, afterHand}
 use Rattle.captures.specs.declared.Head.{Head}
 use Rattle.captures.specs.declared.Head.the-variants.{Net, NoNet}
 use Rattle.captures.specs.declared.Line.{Line}
-use Rattle.captures.specs.declared.Line.the-variants.{Link, NoRecord}
+use Rattle.captures.specs.declared.Line.the-variants.{Link, Hand, NoRecord}
 use Rattle.captures.specs.declared.Field.the-variants.{Reads, NoField}
-use Rattle.captures.proofs.Pieces.{piecesFrom, pieces-from, pieces-past, next-piece}
+use Rattle.captures.proofs.Fields.{same-is}
+use Rattle.captures.proofs.Pieces.{pieces-from, pieces-past, next-piece}
 
 -- ---- one field
 
@@ -31,17 +32,6 @@ unfolding fieldAt
 field-told line at end p e = rw (le-ltb (length line) at p, e)
 
 -- ---- as many numbers as asked for
-
--- so many fields, each of them a number
-abbrev pub allNumbers : ℕ → List (List ℕ) → Bool
-allNumbers zero [] = true
-allNumbers zero (field ∷ fields) = false
-allNumbers (suc n) [] = false
-allNumbers (suc n) (field ∷ fields) = isNumber field && allNumbers n fields
-
--- what the numbers of so many fields make, or `wrong`
-unfoldable pub reading : {A : Type 0} → ℕ → (List ℕ → A) → A → List (List ℕ) → A
-reading n make wrong fields = cond (allNumbers n fields) (make (map (value 0) fields)) wrong
 
 module _ {A : Type 0} (line : List ℕ) (at : ℕ) (make : List ℕ → A) (wrong : A) where
   end : ℕ
@@ -104,13 +94,10 @@ module _ {A : Type 0} (line : List ℕ) (at : ℕ) (make : List ℕ → A) (wron
   unfolding reading
   reading-past p = rw (next-piece tab line at (endOf line at tab) p refl)
 
--- ---- the two shapes
+-- ---- the shapes
 
 abbrev pub netOf : List ℕ → Head
 netOf v = Net (getD v 0 0) (getD v 1 0) (getD v 2 0) (getD v 3 0) (getD v 4 0)
-
-abbrev pub linkOf : List ℕ → Line
-linkOf v = Link (getD v 0 0) (getD v 1 0)
 
 cond-and : {A : Type 0} (a b : Bool) (x y : A) → cond (a && b) x y ≡ cond a (cond b x y) y
 cond-and true b x y = refl
@@ -136,15 +123,40 @@ head-from first (a ∷ b ∷ c ∷ d ∷ []) = simp (and-false, cond-same)
 head-from first (a ∷ b ∷ c ∷ d ∷ e ∷ []) = simp (and-assoc, and-true, cond-and)
 head-from first (a ∷ b ∷ c ∷ d ∷ e ∷ f ∷ fields) = simp (ne-eqb (length (first ∷ a ∷ b ∷ c ∷ d ∷ e ∷ f ∷ fields)) 6 (λ q. omega arith), and-false, cond-same)
 
-lineFrom : List (List ℕ) → Line
-lineFrom f = cond (eqb (length f) 3 && same (getD f 0 []) link && isNumber (getD f 1 []) && isNumber (getD f 2 [])) (Link (value 0 (getD f 1 [])) (value 0 (getD f 2 []))) NoRecord
+-- what the fields of a line say that is no link
+handFrom : List (List ℕ) → Line
+handFrom f = cond (eqb (length f) 2 && same (getD f 0 []) hand && isNumber (getD f 1 [])) (Hand (value 0 (getD f 1 []))) NoRecord
 
-line-from : (first : List ℕ) (fields : List (List ℕ)) → lineFrom (first ∷ fields) ≡ cond (same first link) (reading 2 linkOf NoRecord fields) NoRecord
-unfolding lineFrom reading
-line-from first [] = simp cond-same
-line-from first (a ∷ []) = simp (and-false, cond-same)
-line-from first (a ∷ b ∷ []) = simp (and-assoc, and-true, cond-and)
-line-from first (a ∷ b ∷ c ∷ fields) = simp (ne-eqb (length (first ∷ a ∷ b ∷ c ∷ fields)) 3 (λ q. omega arith), and-false, cond-same)
+hand-from : (first : List ℕ) (fields : List (List ℕ)) → handFrom (first ∷ fields) ≡ cond (same first hand) (reading 1 handOf NoRecord fields) NoRecord
+unfolding handFrom reading
+hand-from first [] = simp cond-same
+hand-from first (a ∷ []) = simp (and-assoc, and-true, cond-and)
+hand-from first (a ∷ b ∷ fields) = simp (ne-eqb (length (first ∷ a ∷ b ∷ fields)) 2 (λ q. omega arith), and-false, cond-same)
+
+-- and of a line that says `other` if it is none
+linkFrom : Line → List (List ℕ) → Line
+linkFrom other f = cond (eqb (length f) 3 && same (getD f 0 []) link && isNumber (getD f 1 []) && isNumber (getD f 2 [])) (Link (value 0 (getD f 1 [])) (value 0 (getD f 2 []))) other
+
+link-from : (other : Line) (first : List ℕ) (fields : List (List ℕ)) → linkFrom other (first ∷ fields) ≡ cond (same first link) (reading 2 linkOf other fields) other
+unfolding linkFrom reading
+link-from other first [] = simp cond-same
+link-from other first (a ∷ []) = simp (and-false, cond-same)
+link-from other first (a ∷ b ∷ []) = simp (and-assoc, and-true, cond-and)
+link-from other first (a ∷ b ∷ c ∷ fields) = simp (ne-eqb (length (first ∷ a ∷ b ∷ c ∷ fields)) 3 (λ q. omega arith), and-false, cond-same)
+
+-- the word link is not the word hand
+one-word : (first : List ℕ) → same first link ≡ true → same first hand ≡ false
+unfolding same
+one-word first is = ap (λ (word : List ℕ). same word hand) (same-is first link is)
+
+line-from : (first : List ℕ) (fields : List (List ℕ)) → linkFrom (handFrom (first ∷ fields)) (first ∷ fields)
+    ≡ cond (same first link) (reading 2 linkOf NoRecord fields) (cond (same first hand) (reading 1 handOf NoRecord fields) NoRecord)
+line-from first fields = link-from (handFrom (first ∷ fields)) first fields ∙ go (same first link) refl
+  where
+    go : (b : Bool) → same first link ≡ b → cond b (reading 2 linkOf (handFrom (first ∷ fields)) fields) (handFrom (first ∷ fields))
+        ≡ cond b (reading 2 linkOf NoRecord fields) (cond (same first hand) (reading 1 handOf NoRecord fields) NoRecord)
+    go true e = ap (λ (other : Line). reading 2 linkOf other fields) (hand-from first fields ∙ rw (one-word first e))
+    go false e = hand-from first fields
 
 -- a line's first field and the others
 module _ (line : List ℕ) (end : ℕ) (e : end ≡ endOf line 0 tab) where
@@ -158,6 +170,16 @@ module _ (line : List ℕ) (end : ℕ) (e : end ≡ endOf line 0 tab) where
   unfolding headOf headFrom
   head-shape b said = ap headFrom split ∙ head-from (take end line) (piecesFrom tab line (end + 1)) ∙ rw said refl
 
-  pub line-shape : (b : Bool) → b ≡ same (take end line) link → lineOf line ≡ cond b (reading 2 linkOf NoRecord (piecesFrom tab line (end + 1))) NoRecord
-  unfolding lineOf lineFrom
-  line-shape b said = ap lineFrom split ∙ line-from (take end line) (piecesFrom tab line (end + 1)) ∙ rw said refl
+  line-shape : lineOf line ≡ cond (same (take end line) link) (afterLink line (end + 1)) (cond (same (take end line) hand) (afterHand line (end + 1)) NoRecord)
+  unfolding lineOf linkFrom handFrom
+  line-shape = ap (λ (f : List (List ℕ)). linkFrom (handFrom f) f) split ∙ line-from (take end line) (piecesFrom tab line (end + 1))
+
+  -- what it says, by its word
+  pub line-link : same (take end line) link ≡ true → lineOf line ≡ afterLink line (end + 1)
+  line-link is = line-shape ∙ rw is
+
+  pub line-hand : same (take end line) link ≡ false → same (take end line) hand ≡ true → lineOf line ≡ afterHand line (end + 1)
+  line-hand not is = line-shape ∙ rw (not, is)
+
+  pub line-none : same (take end line) link ≡ false → same (take end line) hand ≡ false → lineOf line ≡ NoRecord
+  line-none not neither = line-shape ∙ rw (not, neither)

@@ -4,12 +4,12 @@ use mathlib.Core.List.{List, [], _∷_}
 use Prim.Native.Nat.{ℕ, suc, _+_, _*_}
 use lib.Dec.{eqb, ltb}
 use lib.ListN.{length, getD, set, replicate}
-use Rattle.captures.specs.Words.{tab, net, link}
+use Rattle.captures.specs.Words.{tab, net, link, hand}
 use Rattle.captures.specs.Text.{pieces, same, value, isNumber}
 use Rattle.captures.specs.declared.Head.{Head}
 use Rattle.captures.specs.declared.Head.the-variants.{Net, NoNet}
 use Rattle.captures.specs.declared.Line.{Line}
-use Rattle.captures.specs.declared.Line.the-variants.{Link, NoRecord}
+use Rattle.captures.specs.declared.Line.the-variants.{Link, Hand, NoRecord}
 
 -- ---- lines
 
@@ -21,11 +21,12 @@ headOf line =
     (Net (value 0 (getD f 1 [])) (value 0 (getD f 2 [])) (value 0 (getD f 3 [])) (value 0 (getD f 4 [])) (value 0 (getD f 5 [])))
     NoNet
 
--- every other line: link and two radios
+-- every other line: link and two radios, or hand and one
 unfoldable pub lineOf : List ℕ → Line
 lineOf line =
     let f = pieces tab line in
-    cond (eqb (length f) 3 && same (getD f 0 []) link && isNumber (getD f 1 []) && isNumber (getD f 2 [])) (Link (value 0 (getD f 1 [])) (value 0 (getD f 2 []))) NoRecord
+    cond (eqb (length f) 3 && same (getD f 0 []) link && isNumber (getD f 1 []) && isNumber (getD f 2 [])) (Link (value 0 (getD f 1 [])) (value 0 (getD f 2 [])))
+    (cond (eqb (length f) 2 && same (getD f 0 []) hand && isNumber (getD f 1 [])) (Hand (value 0 (getD f 1 []))) NoRecord)
 
 -- lines of the right shape
 abbrev pub isHead : Head → Bool
@@ -34,6 +35,7 @@ isHead NoNet = false
 
 abbrev pub isRecord : Line → Bool
 isRecord (Link u v) = true
+isRecord (Hand v) = true
 isRecord NoRecord = false
 
 -- ---- 9: the first line of the wrong shape
@@ -57,10 +59,14 @@ linesOf [] = []
 linesOf (last ∷ []) = []
 linesOf (line ∷ next ∷ rest) = lineOf line ∷ linesOf (next ∷ rest)
 
--- two lines say the same link
+-- two lines say the same link, or name the same handheld
 abbrev pub says : Line → Line → Bool
 says (Link u v) (Link a b) = eqb u a && eqb v b
+says (Link u v) (Hand w) = false
 says (Link u v) NoRecord = false
+says (Hand v) (Link a b) = false
+says (Hand v) (Hand w) = eqb v w
+says (Hand v) NoRecord = false
 says NoRecord other = false
 
 -- what the line says came before
@@ -69,9 +75,10 @@ came line [] = false
 came line (other ∷ before) = says line other || came line before
 
 -- 11: what is wrong with a line after those before it. A link's first radio is not below the second, or the second is not below n, or the
--- link came before
+-- link came before; a handheld is not below n, or was named before
 abbrev pub atFault : ℕ → List Line → Line → Bool
 atFault n before (Link u v) = not (ltb u v) || not (ltb v n) || came (Link u v) before
+atFault n before (Hand v) = not (ltb v n) || came (Hand v) before
 atFault n before NoRecord = false
 
 -- the number of the first line at fault, of lines of which the first is line `number`; 0 where there is none. Every line counts
@@ -81,9 +88,10 @@ faultLine n number before (line ∷ rest) = cond (atFault n before line) number 
 
 -- ---- the map
 
--- the table after a line: a link stands in both its cells
+-- the table after a line: a link stands in both its cells, a handheld in its own
 abbrev pub withLine : ℕ → List ℕ → Line → List ℕ
 withLine n table (Link u v) = set (set table (u * n + v) 1) (v * n + u) 1
+withLine n table (Hand v) = set table (v * n + v) 1
 withLine n table NoRecord = table
 
 unfoldable pub tableWith : ℕ → List ℕ → List Line → List ℕ

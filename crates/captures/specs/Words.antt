@@ -14,6 +14,9 @@ net = 110 ∷ 101 ∷ 116 ∷ []
 abbrev pub link : List ℕ
 link = 108 ∷ 105 ∷ 110 ∷ 107 ∷ []
 
+abbrev pub hand : List ℕ
+hand = 104 ∷ 97 ∷ 110 ∷ 100 ∷ []
+
 abbrev pub report : List ℕ
 report = 114 ∷ 101 ∷ 112 ∷ 111 ∷ 114 ∷ 116 ∷ []
 

@@ -4,7 +4,7 @@ ghost use Prim.Native.Nat.{_≤_};
 ghost use lib.ListN.{length};
 ghost use Rattle.captures.specs.Text.{same, numberOf};
 ghost use Rattle.captures.specs.Capture.{headOf, lineOf};
-ghost use Rattle.captures.specs.Reading.{endOf, fieldAt};
+ghost use Rattle.captures.specs.Reading.{endOf, fieldAt, afterLink, afterHand};
 
 // Fields are parted by this byte.
 pub const TAB: u8 = b'\t';
@@ -27,9 +27,10 @@ pub enum Head {
     NoNet,
 }
 
-// What any other line says, if it has the right shape: a link between two radios.
+// What any other line says, if it has the right shape: a link between two radios, or a radio that is a handheld.
 pub enum Line {
     Link(usize, usize),
+    Hand(usize),
     NoRecord,
 }
 
@@ -153,15 +154,11 @@ pub fn head_of(line: &[u8]) -> Head
     }
 }
 
-// What a line says as any other of a capture.
-pub fn line_of(line: &[u8]) -> Line
-    ensures { λ r. ⌜ r ≡ lineOf (now (line .entry)) ⌝ }
+// What a line says whose word is link and whose other fields start at `at`: they are two radios.
+fn after_link(line: &[u8], at: usize) -> Line
+    ensures { λ r. ⌜ r ≡ afterLink (now (line .entry)) at ⌝ }
 {
-    let end = end_of(line, 0, TAB);
-    if !is_word(&line[..end], b"link") {
-        return Line::NoRecord;
-    }
-    let Field::Reads(u, at_v) = field_at(line, end + 1) else {
+    let Field::Reads(u, at_v) = field_at(line, at) else {
         return Line::NoRecord;
     };
     let Field::Reads(v, past) = field_at(line, at_v) else {
@@ -171,4 +168,31 @@ pub fn line_of(line: &[u8]) -> Line
         return Line::NoRecord;
     }
     Line::Link(u, v)
+}
+
+// What a line says whose word is hand and whose other fields start at `at`: they are one radio.
+fn after_hand(line: &[u8], at: usize) -> Line
+    ensures { λ r. ⌜ r ≡ afterHand (now (line .entry)) at ⌝ }
+{
+    let Field::Reads(v, past) = field_at(line, at) else {
+        return Line::NoRecord;
+    };
+    if past <= line.len() {
+        return Line::NoRecord;
+    }
+    Line::Hand(v)
+}
+
+// What a line says as any other of a capture.
+pub fn line_of(line: &[u8]) -> Line
+    ensures { λ r. ⌜ r ≡ lineOf (now (line .entry)) ⌝ }
+{
+    let end = end_of(line, 0, TAB);
+    if is_word(&line[..end], b"link") {
+        return after_link(line, end + 1);
+    }
+    if is_word(&line[..end], b"hand") {
+        return after_hand(line, end + 1);
+    }
+    Line::NoRecord
 }

@@ -1,5 +1,5 @@
 -- The cells of a table: what a good one says, where it stands in row order, and what it says of the links. Assumes nothing.
-use mathlib.Core.Path.{_≡_, refl, sym, ap, _∙_}
+use mathlib.Core.Path.{_≡_, refl, sym, ap}
 use mathlib.Core.Bool.{Bool, true, false, not, _&&_, cond, and-false, true≢false}
 use mathlib.Core.List.{List}
 use Prim.Native.Nat.{ℕ, _+_, _*_, _≤_, _<_}
@@ -8,50 +8,38 @@ use native.Mathlib.Nat.{mul-le-mul-right, suc-mul}
 use native.Mathlib.Omega.{arith}
 use lib.Dec.{eqb, ltb}
 use lib.ListN.{getD}
-use borrow.Author.Tests.{eq-eqb, ne-eqb, eqb-true, lt-ltb, le-ltb, ltb-false, not-false}
+use borrow.Author.Tests.{eq-eqb, ne-eqb, eqb-true, lt-ltb, le-ltb, ltb-false}
 use Rattle.basics.proofs.Places.{row-of, column-of}
 use Rattle.radios.specs.Bytes.{isOne}
 use Rattle.site.specs.Map.{linked}
 use Rattle.refusals.specs.Refusals.{cellFinding, findingAt, isBad}
 use Rattle.refusals.specs.declared.Finding.{Finding}
-use Rattle.refusals.specs.declared.Finding.the-variants.{Sound, Value, Diagonal, Mirror}
+use Rattle.refusals.specs.declared.Finding.the-variants.{Sound, Value, Mirror}
 use Rattle.site.specs.Limits.{mostRadios}
 
 -- ---- good cells
 
 -- what is known of a cell that is not bad
-pub record Good (i j cell mirror : ℕ) : Type 0 where
+pub record Good (cell mirror : ℕ) : Type 0 where
   pub bit : cell ≤ 1
-  pub off : i ≡ j → cell ≡ 0
   pub even : cell ≡ mirror
 
-good : (place i j cell mirror : ℕ) → isBad (cellFinding place i j cell mirror) ≡ false → Good i j cell mirror
+good : (place cell mirror : ℕ) → isBad (cellFinding place cell mirror) ≡ false → Good cell mirror
 unfolding cellFinding
-good place i j cell mirror = go (ltb 1 cell) (eqb i j && not (eqb cell 0)) (eqb cell mirror) refl refl refl
+good place cell mirror = go (ltb 1 cell) (eqb cell mirror) refl refl
   where
-    go : (value own even : Bool) → ltb 1 cell ≡ value → (eqb i j && not (eqb cell 0)) ≡ own → eqb cell mirror ≡ even
-        → isBad (cond value (Value place) (cond own (Diagonal place) (cond (not even) (Mirror place) Sound))) ≡ false → Good i j cell mirror
-    go false false true v o e sound =
-        record {
-          bit = ltb-false 1 cell v;
-          off = λ q. eqb-true cell 0 (not-false (eqb cell 0) (ap (λ (t : Bool). t && not (eqb cell 0)) (sym (eq-eqb i j q)) ∙ o));
-          even = eqb-true cell mirror e;
-        }
-    go true own even v o e sound = absurd (true≢false sound)
-    go false true even v o e sound = absurd (true≢false sound)
-    go false false false v o e sound = absurd (true≢false sound)
+    go : (value even : Bool) → ltb 1 cell ≡ value → eqb cell mirror ≡ even → isBad (cond value (Value place) (cond (not even) (Mirror place) Sound)) ≡ false → Good cell mirror
+    go false true v e sound = record { bit = ltb-false 1 cell v; even = eqb-true cell mirror e }
+    go true even v e sound = absurd (true≢false sound)
+    go false false v e sound = absurd (true≢false sound)
 
-pub not-bad : (place i j cell mirror : ℕ) → Good i j cell mirror → isBad (cellFinding place i j cell mirror) ≡ false
+pub not-bad : (place cell mirror : ℕ) → Good cell mirror → isBad (cellFinding place cell mirror) ≡ false
 unfolding cellFinding
-not-bad place i j cell mirror g = simp (le-ltb 1 cell (g .bit), eq-eqb cell mirror (g .even)) (pick (ℕ-discrete i j))
-  where
-    pick : Dec (i ≡ j) → isBad (cond (eqb i j && not (eqb cell 0)) (Diagonal place) Sound) ≡ false
-    pick (yes e) = simp (eq-eqb i j e, eq-eqb cell 0 (g .off e))
-    pick (no d) = simp (ne-eqb i j d)
+not-bad place cell mirror g = simp (le-ltb 1 cell (g .bit), eq-eqb cell mirror (g .even))
 
 -- what is found at the cell of row i and column j of a table
 abbrev pub findingIn : List ℕ → ℕ → ℕ → ℕ → Finding
-findingIn table n i j = cellFinding (i * n + j) i j (getD table (i * n + j) 0) (getD table (j * n + i) 0)
+findingIn table n i j = cellFinding (i * n + j) (getD table (i * n + j) 0) (getD table (j * n + i) 0)
 
 abbrev pub badIn : List ℕ → ℕ → ℕ → ℕ → Bool
 badIn table n i j = isBad (findingIn table n i j)
@@ -59,22 +47,10 @@ badIn table n i j = isBad (findingIn table n i j)
 -- a cell is as good as its mirror cell
 pub good-mirror : (table : List ℕ) (n i j : ℕ) → badIn table n i j ≡ false → badIn table n j i ≡ false
 good-mirror table n i j e =
-    let g = good (i * n + j) i j (getD table (i * n + j) 0) (getD table (j * n + i) 0) e in
-    not-bad (j * n + i) j i (getD table (j * n + i) 0) (getD table (i * n + j) 0)
-    (record { bit = omega (arith, g .bit, g .even); off = λ q. sym (g .even) ∙ g .off (sym q); even = sym (g .even) })
+    let g = good (i * n + j) (getD table (i * n + j) 0) (getD table (j * n + i) 0) e in
+    not-bad (j * n + i) (getD table (j * n + i) 0) (getD table (i * n + j) 0) (record { bit = omega (arith, g .bit, g .even); even = sym (g .even) })
 
 -- ---- links
-
--- a good cell is 1 where its radios are linked
-pub linked-good : (table : List ℕ) (n i j : ℕ) → i < n → j < n → badIn table n i j ≡ false → linked table n i j ≡ eqb (getD table (i * n + j) 0) 1
-unfolding linked
-linked-good table n i j hi hj e = simp (lt-ltb i n hi, lt-ltb j n hj) (pick (ℕ-discrete i j))
-  where
-    pick : Dec (i ≡ j) → (not (eqb i j) && eqb (getD table (i * n + j) 0) 1) ≡ eqb (getD table (i * n + j) 0) 1
-    pick (yes q) =
-        let z : getD table (i * n + j) 0 ≡ 0 = good (i * n + j) i j (getD table (i * n + j) 0) (getD table (j * n + i) 0) e .off q in
-        simp (eq-eqb i j q, z)
-    pick (no d) = simp (ne-eqb i j d)
 
 -- two radios are linked where their cell is 1
 pub linked-apart : (table : List ℕ) (n i j : ℕ) → i < n → j < n → (i ≡ j → ⊥) → linked table n i j ≡ isOne table (i * n + j)
@@ -96,6 +72,15 @@ linked-outside table n u v out = pick (decLt u n) (decLt v n)
     pick (yes p) (no q) = simp (lt-ltb u n p, le-ltb v n (omega arith))
     pick (no p) (yes q) = simp (le-ltb u n (omega arith))
     pick (no p) (no q) = simp (le-ltb u n (omega arith))
+
+-- the cells of row i that are 1, but for its own, are the radios that i is linked to
+pub linked-row : (table : List ℕ) (n i j : ℕ) → i < n → (not (eqb j i) && (ltb j n && isOne table (i * n + j))) ≡ linked table n i j
+linked-row table n i j hi = pick (ℕ-discrete i j) (decLt j n)
+  where
+    pick : Dec (i ≡ j) → Dec (j < n) → (not (eqb j i) && (ltb j n && isOne table (i * n + j))) ≡ linked table n i j
+    pick (yes e) q = simp (eq-eqb j i (sym e)) (sym (linked-itself table n i j e))
+    pick (no d) (yes q) = simp (ne-eqb j i (λ e. d (sym e)), lt-ltb j n q) (sym (linked-apart table n i j hi q d))
+    pick (no d) (no q) = simp (ne-eqb j i (λ e. d (sym e)), le-ltb j n (omega arith)) (sym (linked-outside table n i j (λ a b. q b)))
 
 -- ---- row order
 

@@ -1,4 +1,4 @@
--- The cells of a row gathered into a set: eight more, one more. Assumes nothing.
+-- Cells gathered into a set: eight more, one more. Assumes nothing.
 use mathlib.Core.Path.{_≡_, refl, ap, ap₂, _∙_}
 use mathlib.Core.Bool.{Bool, _&&_, _||_, and-true, and-false, or-false}
 use mathlib.Core.List.{List}
@@ -9,10 +9,26 @@ use lib.Dec.{eqb, ltb, leb}
 use borrow.Author.Tests.{eq-eqb, ne-eqb, lt-ltb, le-ltb, le-leb, lt-leb}
 use Rattle.radios.specs.Bytes.{isOne}
 use Rattle.radios.specs.Member.{member}
+use Rattle.radios.proofs.Laws.{member-empty}
+
+-- the radios below k that pass the test, as a set
+abbrev pub SoFar : (ℕ → Bool) → ℕ → ℕ → Type 0
+SoFar test k set = (j : ℕ) → member j set ≡ (ltb j k && test j)
+
+pub none-so-far : (test : ℕ → Bool) → SoFar test 0 0
+none-so-far test j = member-empty j ∙ simp (le-ltb j 0 (omega arith))
+
+pub one-more : (test : ℕ → Bool) (k set set′ : ℕ) → SoFar test k set → ((j : ℕ) → member j set′ ≡ ((test k && eqb j k) || member j set)) → SoFar test (k + 1) set′
+one-more test k set set′ before more j = more j ∙ ap (λ (b : Bool). (test k && eqb j k) || b) (before j) ∙ pick (decLt j k) (ℕ-discrete j k)
+  where
+    pick : Dec (j < k) → Dec (j ≡ k) → ((test k && eqb j k) || (ltb j k && test j)) ≡ (ltb j (k + 1) && test j)
+    pick (yes l) q = simp (ne-eqb j k (λ e. omega arith), lt-ltb j k l, lt-ltb j (k + 1) (omega arith), and-false)
+    pick (no l) (yes e) = rw e (simp (eq-eqb k k refl, le-ltb k k (omega arith), lt-ltb k (k + 1) (omega arith), and-true, or-false))
+    pick (no l) (no e) = simp (ne-eqb j k e, le-ltb j k (omega arith), le-ltb j (k + 1) (omega arith), and-false)
 
 -- the first k cells from the start on, as a set
 abbrev pub RowSoFar : List ℕ → ℕ → ℕ → ℕ → Type 0
-RowSoFar table start k row = (j : ℕ) → member j row ≡ (ltb j k && isOne table (start + j))
+RowSoFar table start k row = SoFar (λ j. isOne table (start + j)) k row
 
 module _ (table : List ℕ) (start : ℕ) where
   pub eight-more : (k row eight raised row′ : ℕ) → RowSoFar table start (8 * k) row → RowSoFar table (start + 8 * k) 8 eight
@@ -28,11 +44,3 @@ module _ (table : List ℕ) (start : ℕ) where
           simp (le-leb (8 * k) j (omega arith), le-ltb j (8 * k) (omega arith), lt-ltb j (8 * (k + 1)) q, eight-is (j - 8 * k), lt-ltb (j - 8 * k) 8 (omega arith), e, or-false)
       pick (no l) (no q) =
           simp (le-leb (8 * k) j (omega arith), le-ltb j (8 * k) (omega arith), le-ltb j (8 * (k + 1)) (omega arith), eight-is (j - 8 * k), le-ltb (j - 8 * k) 8 (omega arith))
-
-  pub cell-more : (k row row′ : ℕ) → RowSoFar table start k row → ((j : ℕ) → member j row′ ≡ ((isOne table (start + k) && eqb j k) || member j row)) → RowSoFar table start (k + 1) row′
-  cell-more k row row′ before more j = more j ∙ ap (λ (b : Bool). (isOne table (start + k) && eqb j k) || b) (before j) ∙ pick (decLt j k) (ℕ-discrete j k)
-    where
-      pick : Dec (j < k) → Dec (j ≡ k) → ((isOne table (start + k) && eqb j k) || (ltb j k && isOne table (start + j))) ≡ (ltb j (k + 1) && isOne table (start + j))
-      pick (yes l) q = simp (ne-eqb j k (λ e. omega arith), lt-ltb j k l, lt-ltb j (k + 1) (omega arith), and-false)
-      pick (no l) (yes e) = rw e (simp (eq-eqb k k refl, le-ltb k k (omega arith), lt-ltb k (k + 1) (omega arith), and-true, or-false))
-      pick (no l) (no e) = simp (ne-eqb j k e, le-ltb j k (omega arith), le-ltb j (k + 1) (omega arith), and-false)

@@ -5,11 +5,11 @@ use mathlib.Core.List.{List}
 use Prim.Native.Nat.{ℕ, zero, suc, _+_, _*_, _≤_, _<_}
 use native.Mathlib.Decide.{ℕ-discrete, decLt}
 use native.Mathlib.Omega.{arith}
-use lib.Dec.{eqb, ltb}
+use lib.Dec.{eqb}
 use lib.ListN.{getD}
-use borrow.Author.Tests.{eq-eqb, ne-eqb, lt-ltb, le-ltb}
+use borrow.Author.Tests.{eq-eqb, ne-eqb}
 use Rattle.basics.proofs.Bools.{clash}
-use Rattle.radios.specs.Bytes.{Bits, isOne}
+use Rattle.radios.specs.Bytes.{Bits}
 use Rattle.radios.specs.Member.{member}
 use Rattle.radios.proofs.Laws.{member-empty}
 use Rattle.site.specs.Map.{linked}
@@ -18,16 +18,15 @@ use Rattle.refusals.specs.declared.Finding.the-variants.{Sound}
 use Rattle.checks.specs.Checked.{AgreeTo, joined}
 use Rattle.radios.specs.Links.{RowsOfLinks}
 use Rattle.checks.proofs.Rows.{inRows}
-use Rattle.checks.proofs.Cells.{badIn, not-bad, linked-good, linked-apart, linked-itself, linked-outside}
+use Rattle.checks.proofs.Cells.{badIn, not-bad, linked-apart, linked-itself, linked-outside}
 use Rattle.checks.proofs.Spreading.{swap}
-use Rattle.checks.proofs.Scan.{found-none, sound-cell, sound-even}
+use Rattle.checks.proofs.Scan.{found-none, sound-even}
 
--- what is known before row i: the rows before it are the links, a radio is in another's row where the other is in its row, and the cells passed on the diagonal are not 1
+-- what is known before row i: the rows before it are the links, and a radio is in another's row where the other is in its row
 pub record Mirrored (table : List ℕ) (n : ℕ) (rows : List ℕ) (i : ℕ) : Type 0 where
   pub whole : (u v : ℕ) → u < i → inRows rows u v ≡ linked table n u v
   pub even : (u v : ℕ) → inRows rows u v ≡ inRows rows v u
   pub rest : (u v : ℕ) → i ≤ u → i ≤ v → inRows rows u v ≡ false
-  pub off : (u : ℕ) → u < i → isOne table (u * n + u) ≡ false
 
 -- before the first row
 pub mirrored-none : (table : List ℕ) (n : ℕ) (rows : List ℕ) → ((u : ℕ) → getD rows u 0 ≡ 0) → Mirrored table n rows 0
@@ -36,7 +35,6 @@ mirrored-none table n rows empty =
       whole = λ u v l. absurd (omega arith);
       even = λ u v. none u v ∙ sym (none v u);
       rest = λ u v p q. none u v;
-      off = λ u l. absurd (omega arith);
     }
   where
     none : (u v : ℕ) → inRows rows u v ≡ false
@@ -44,10 +42,10 @@ mirrored-none table n rows empty =
 
 -- row i is gathered
 module _ (table : List ℕ) (n i : ℕ) (rows : List ℕ) (row : ℕ) (inside : i < n) (m : Mirrored table n rows i)
-    (row-is : (j : ℕ) → member j row ≡ (ltb j n && isOne table (i * n + j))) where
+    (row-is : (j : ℕ) → member j row ≡ linked table n i j) where
   -- in a sound table it agrees with what the rows before it said
   pub sound-agrees : finding table n ≡ Sound → AgreeTo row (getD rows i 0) i
-  sound-agrees e j l = row-is j ∙ simp (lt-ltb j n (omega arith)) (sym (linked-good table n i j inside (omega arith) (sound-cell table n i j e inside (omega arith))) ∙ pick (ℕ-discrete i j))
+  sound-agrees e j l = row-is j ∙ pick (ℕ-discrete i j)
     where
       pick : Dec (i ≡ j) → linked table n i j ≡ member j (getD rows i 0)
       pick (yes q) = linked-itself table n i j q ∙ sym (m .rest i j (omega arith) (omega arith))
@@ -68,20 +66,9 @@ module _ (table : List ℕ) (n i : ℕ) (rows : List ℕ) (row : ℕ) (inside : 
         pick (yes l) = simp (new-is v, m .rest i v (omega arith) (omega arith), and-true, or-false)
         pick (no l) = simp (low v (omega arith)) (sym (agree v (omega arith)))
 
-    on-diagonal : member i row ≡ false
-    on-diagonal = agree i (omega arith) ∙ m .rest i i (omega arith) (omega arith)
-
     -- so row i holds the links of radio i
-    row-linked : (v : ℕ) → member v row ≡ linked table n i v
-    row-linked v = pick (ℕ-discrete i v) (decLt v n)
-      where
-        pick : Dec (i ≡ v) → Dec (v < n) → member v row ≡ linked table n i v
-        pick (yes e) q = rw (sym e) (on-diagonal ∙ sym (linked-itself table n i i refl))
-        pick (no d) (yes q) = row-is v ∙ simp (lt-ltb v n q) (sym (linked-apart table n i v inside q d))
-        pick (no d) (no q) = row-is v ∙ simp (le-ltb v n (omega arith)) (sym (linked-outside table n i v (λ a b. q b)))
-
     own : (v : ℕ) → inRows rows′ i v ≡ linked table n i v
-    own v = joined-is i v ∙ simp (eq-eqb i i refl, low i (omega arith), and-false) (together v) ∙ row-linked v
+    own v = joined-is i v ∙ simp (eq-eqb i i refl, low i (omega arith), and-false) (together v) ∙ row-is v
 
     -- the rows before it stay
     before : (u v : ℕ) → u < i → inRows rows′ u v ≡ inRows rows u v
@@ -93,16 +80,11 @@ module _ (table : List ℕ) (n i : ℕ) (rows : List ℕ) (row : ℕ) (inside : 
           whole = λ u v l. whole u v l (decLt u i);
           even = λ u v. joined-is u v ∙ swap (eqb u i && member v new) (eqb v i && member u new) (inRows rows u v) ∙ ap (λ (b : Bool). (eqb v i && member u new) || ((eqb u i && member v new) || b)) (m .even u v) ∙ sym (joined-is v u);
           rest = λ u v p q. joined-is u v ∙ simp (ne-eqb u i (λ e. omega arith), ne-eqb v i (λ e. omega arith)) (m .rest u v (omega arith) (omega arith));
-          off = λ u l. off u l (decLt u i);
         }
       where
         whole : (u v : ℕ) → u < i + 1 → Dec (u < i) → inRows rows′ u v ≡ linked table n u v
         whole u v l (yes p) = before u v p ∙ m .whole u v p
         whole u v l (no p) = let e : u ≡ i = omega arith in rw e (own v)
-
-        off : (u : ℕ) → u < i + 1 → Dec (u < i) → isOne table (u * n + u) ≡ false
-        off u l (yes p) = m .off u p
-        off u l (no p) = let e : u ≡ i = omega arith in rw e (sym (row-is i ∙ simp (lt-ltb i n inside)) ∙ on-diagonal)
 
 -- ---- what it comes to
 
@@ -120,8 +102,7 @@ module _ (table : List ℕ) (n : ℕ) (rows : List ℕ) (bits : Bits table) (m :
   -- every cell is good
   no-bad : (a b : ℕ) → a < n → b < n → badIn table n a b ≡ false
   no-bad a b p q =
-      not-bad (a * n + b) a b (getD table (a * n + b) 0) (getD table (b * n + a) 0)
-      (record { bit = bits (a * n + b); off = λ e. same-bits _ 0 (bits (a * n + b)) (omega arith) (rw (sym e) (m .off a p)); even = pick (ℕ-discrete a b) })
+      not-bad (a * n + b) (getD table (a * n + b) 0) (getD table (b * n + a) 0) (record { bit = bits (a * n + b); even = pick (ℕ-discrete a b) })
     where
       pick : Dec (a ≡ b) → getD table (a * n + b) 0 ≡ getD table (b * n + a) 0
       pick (yes e) = rw e refl

@@ -9,17 +9,15 @@ use native.Mathlib.Omega.{arith}
 use lib.ListN.{length, getD, List·getD-eq-default}
 use borrow.Author.Tests.{lt-ltb, le-ltb}
 use Rattle.basics.specs.Counting.{firstFrom}
-use Rattle.basics.proofs.Bools.{not-true→false}
 use Rattle.basics.proofs.Counting.{first-is}
 use Rattle.radios.specs.Bytes.{Bits}
 use Rattle.refusals.specs.Conditions.{no-bit}
 use Rattle.refusals.specs.Refusals.{cellFinding, isBad, badCell, firstBad, finding}
-use Rattle.refusals.proofs.Exactly.{bad-cell, sound-table}
+use Rattle.refusals.proofs.Exactly.{sound-table}
 use Rattle.site.proofs.Formula.{Even}
 use Rattle.refusals.proofs.Accepted.{even-links}
 use Rattle.refusals.specs.declared.Finding.{Finding}
 use Rattle.refusals.specs.declared.Finding.the-variants.{Sound}
-use Rattle.basics.proofs.Places.{in-table}
 use Rattle.site.specs.Limits.{mostRadios}
 use Rattle.checks.proofs.Cells.{findingIn, badIn, good-mirror, at-place, earlier}
 
@@ -67,7 +65,7 @@ sound-places table n here end most s order place l =
     ∙ sound-below table n here s a b in-row in-column (order a b in-row in-column (omega (arith, div-add-mod' place n)))
 
 -- the finding at a cell, read off the table at its place and at its mirror cell's
-pub tested : (table : List ℕ) (n i j at mirror : ℕ) (found : Finding) → at ≡ i * n + j → mirror ≡ j * n + i → found ≡ cellFinding at i j (getD table at 0) (getD table mirror 0) → findingIn table n i j ≡ found
+pub tested : (table : List ℕ) (n i j at mirror : ℕ) (found : Finding) → at ≡ i * n + j → mirror ≡ j * n + i → found ≡ cellFinding at (getD table at 0) (getD table mirror 0) → findingIn table n i j ≡ found
 tested table n i j at mirror found e f said = rw (said, e, f) refl
 
 -- the scan stopped at a bad cell: it is the first
@@ -104,12 +102,7 @@ found-none table n s =
 
 -- ---- what a sound table says
 
--- none of its cells is bad
-pub sound-cell : (table : List ℕ) (n i j : ℕ) → finding table n ≡ Sound → i < n → j < n → badIn table n i j ≡ false
-sound-cell table n i j e p q =
-    sym (ap isBad (at-place table n i j q)) ∙ not-true→false _ (λ t. sound-table table n e (i * n + j) (in-table n i j p q) (bad-cell table n (i * n + j) .0 t))
-
--- so they are 0 or 1
+-- its cells are 0 or 1
 pub sound-bits : (table : List ℕ) (n : ℕ) → length table ≡ n * n → finding table n ≡ Sound → Bits table
 sound-bits table n long e at = pick (decLt at (n * n)) (decLt 1 (getD table at 0))
   where

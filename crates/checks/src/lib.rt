@@ -9,23 +9,22 @@ ghost use Rattle.basics.specs.Counting.{oneIf, sum};
 ghost use Rattle.radios.specs.Bytes.{Bits, isOne};
 ghost use Rattle.radios.specs.Member.{member};
 ghost use Rattle.site.specs.Limits.{mostRadios, mostPaths};
+ghost use Rattle.radios.specs.Links.{Ordinary, Passing};
+ghost use Rattle.site.specs.Map.{Site, linked};
 ghost use Rattle.refusals.specs.Refusals.{cellFinding, finding, callOf, pairVerdict, roomVerdict};
-ghost use Rattle.checks.specs.Checked.{AgreeTo, joined, size, Gathered, Checked, Countable, MapJudged, mostSteps, Judged};
+ghost use Rattle.checks.specs.Checked.{AgreeTo, joined, members, size, Gathered, Checked, Countable, noMap, MapJudged, mostSteps, Judged};
 use refusals::Finding;
 use refusals::Verdict;
 
 // So many cells of a row are read at once.
 const AT_ONCE: usize = 8;
 
-// What is wrong with the cell of row i and column j, at this place: the first of the three kinds that it is of.
-fn judge_cell(place: usize, i: usize, j: usize, cell: u8, mirror: u8) -> Finding
-    ensures { λ r. ⌜ r ≡ cellFinding place i j cell mirror ⌝ }
+// What is wrong with the cell at this place: the first of the two kinds that it is of.
+fn judge_cell(place: usize, cell: u8, mirror: u8) -> Finding
+    ensures { λ r. ⌜ r ≡ cellFinding place cell mirror ⌝ }
 {
     if cell > 1 {
         return Finding::Value(place);
-    }
-    if i == j && cell != 0 {
-        return Finding::Diagonal(place);
     }
     if cell != mirror {
         return Finding::Mirror(place);
@@ -43,16 +42,16 @@ fn clear(rows: &mut [u64; 64])
     }
 }
 
-// The set, with radio v besides where the cell is 1. A choice of two values and no branch around a store: no processor
+// The set, with radio v besides where the test holds. A choice of two values and no branch around a store: no processor
 // guesses which cells are 1.
-fn with_where(row: u64, v: usize, cell: u8) -> u64
+fn with_where(set: u64, v: usize, test: bool) -> u64
     requires { ⌜ v < mostRadios ⌝ }
-    ensures { λ r. ⌜ ((j : ℕ) → member j r ≡ ((eqb cell 1 && eqb j v) || member j row)) ⌝ }
+    ensures { λ r. ⌜ ((j : ℕ) → member j r ≡ ((test && eqb j v) || member j set)) ⌝ }
 {
-    if cell != 1 {
-        return row;
+    if !test {
+        return set;
     }
-    radios::with(row, v)
+    radios::with(set, v)
 }
 
 // The radios of a set join row u.
@@ -117,19 +116,19 @@ fn eights(table: &[u8], start: usize, n: usize) -> u64
     row
 }
 
-// Row i of the table as a set.
+// Row i of the table as a set: the radios that i is linked to. Its own cell tells of no link.
 fn row_of(table: &[u8], n: usize, i: usize) -> u64
     requires { ⌜ Bits (now table) ⌝ }
     requires { ⌜ (n ≤ mostRadios) × (length (now table) ≡ n * n) ⌝ }
     requires { ⌜ i < n ⌝ }
-    ensures { λ r. ⌜ ((j : ℕ) → member j r ≡ (ltb j n && isOne (now (table .entry)) (i * n + j))) ⌝ }
+    ensures { λ r. ⌜ ((j : ℕ) → member j r ≡ linked (now (table .entry)) n i j) ⌝ }
 {
     let start = site::place(n, i, 0);
     let mut row = eights(table, start, n);
     for j in AT_ONCE * (n / AT_ONCE)..n {
-        row = with_where(row, j, table[start + j]);
+        row = with_where(row, j, table[start + j] == 1);
     }
-    row
+    radios::without(row, i)
 }
 
 // Do two sets have the same radios up to i?
@@ -172,7 +171,7 @@ fn first_bad(table: &[u8], n: usize) -> Finding
         for j in i..n {
             let at = site::place(n, i, j);
             let mirror = site::place(n, j, i);
-            found = judge_cell(at, i, j, table[at], table[mirror]);
+            found = judge_cell(at, table[at], table[mirror]);
             if refusals::is_bad(found) {
                 break 'rows;
             }
@@ -205,58 +204,81 @@ fn total_of_rows(rows: &[u64; 64], n: usize) -> usize
     total
 }
 
-// A, the number of steps, from the rows and their total. Left out are the steps into S and those out of T; where S and T
-// are linked, the one from T to S is among both, so it is added back.
-fn steps(rows: &[u64; 64], total: usize, n: usize, s: usize, t: usize) -> usize
-    requires { ⌜ Countable (now rows) total n s t ⌝ }
-    ensures { λ r. ⌜ r + size (now (rows .entry)) s + size (now (rows .entry)) t + 2 ≡ total + oneIf (member t (getD (now (rows .entry)) s 0)) + n ⌝ }
+// The radios of a sound table that are no handhelds: those whose own cell is not 1.
+fn ordinary(table: &[u8], n: usize) -> u64
+    requires { ⌜ (n ≤ mostRadios) × (length (now table) ≡ n * n) ⌝ }
+    ensures { λ r. ⌜ Ordinary (now (table .entry)) n r ⌝ }
 {
-    let others = total - radios::count(rows[s]) - radios::count(rows[t]) + (n - 2);
+    let mut set = 0;
+    for v in 0..n {
+        let own = site::place(n, v, v);
+        set = with_where(set, v, table[own] != 1);
+    }
+    set
+}
+
+// Those that may stand inside a path: all but S and T.
+fn passing(ordinary: u64, s: usize, t: usize) -> u64
+    requires { ⌜ (s < mostRadios) × (t < mostRadios) ⌝ }
+    ensures { λ r. ⌜ ((site : Site) → site .S ≡ s → site .T ≡ t → Ordinary (site .table) (site .n) ordinary → Passing site r) ⌝ }
+{
+    radios::without(radios::without(ordinary, s), t)
+}
+
+// A, the number of steps: one inside each radio that passes, and those of the links, from the rows and their total. Left out are
+// the steps into S and those out of T; where S and T are linked, the one from T to S is among both, so it is added back.
+fn steps(rows: &[u64; 64], total: usize, passing: u64, s: usize, t: usize) -> usize
+    requires { ⌜ Countable (now rows) total s t ⌝ }
+    ensures { λ r. ⌜ r + size (now (rows .entry)) s + size (now (rows .entry)) t ≡ total + oneIf (member t (getD (now (rows .entry)) s 0)) + members passing ⌝ }
+{
+    let others = total - radios::count(rows[s]) - radios::count(rows[t]) + radios::count(passing);
     if radios::has(rows[s], t) {
         return others + 1;
     }
     others
 }
 
-// What the checks of a map answer: the verdict on it, and for an accepted map twice the number of its links.
+// What the checks of a map answer: the verdict on it, and for an accepted map twice the number of its links, and its radios
+// that are no handhelds.
 pub struct MapAnswer {
     pub verdict: Verdict,
     pub total: usize,
+    pub ordinary: u64,
 }
 
-// Refusals 1 to 4, 12 and 13. An accepted map finds its links in the rows; after a refusal they hold what the checks left there.
+// A map that is refused has neither.
+fn no_map(verdict: Verdict) -> MapAnswer
+    ensures { λ r. ⌜ r ≡ noMap verdict ⌝ }
+{
+    MapAnswer {
+        verdict,
+        total: 0,
+        ordinary: 0,
+    }
+}
+
+// Refusals 1 to 4 and 13. An accepted map finds its links in the rows; after a refusal they hold what the checks left there.
 pub fn judge_map(n: usize, table: &[u8], rows: &mut [u64; 64]) -> MapAnswer
     ensures { λ r. ⌜ MapJudged (now (table .entry)) n (now (rows .exit)) r ⌝ }
 {
     if refusals::too_few(n) || refusals::too_many(n) {
-        return MapAnswer {
-            verdict: Verdict::Radios,
-            total: 0,
-        };
+        return no_map(Verdict::Radios);
     }
     if table.len() != n * n {
-        return MapAnswer {
-            verdict: Verdict::TableLength,
-            total: 0,
-        };
+        return no_map(Verdict::TableLength);
     }
     let found = check_table(table, n, rows);
     if refusals::is_bad(found) {
-        return MapAnswer {
-            verdict: refusals::passed_on(found),
-            total: 0,
-        };
+        return no_map(refusals::passed_on(found));
     }
     let total = total_of_rows(rows, n);
     if total / 2 > site::MOST_LINKS {
-        return MapAnswer {
-            verdict: Verdict::Links,
-            total: 0,
-        };
+        return no_map(Verdict::Links);
     }
     MapAnswer {
         verdict: Verdict::Accepted,
         total,
+        ordinary: ordinary(table, n),
     }
 }
 
@@ -289,6 +311,12 @@ pub fn judge_room(n: usize, k: usize, steps: usize, log: usize, paths: usize, cu
     Verdict::Accepted
 }
 
+// What the checks of a call answer: the verdict on it, and for an accepted call the radios that may stand inside a path.
+pub struct CallAnswer {
+    pub verdict: Verdict,
+    pub passing: u64,
+}
+
 // What a call is told before any token is sent: the refusals in their order. log, paths and cut are the lengths of
 // the lent buffers. An accepted call finds its links in the rows; after a refusal they hold what the checks left there.
 pub fn judge(
@@ -301,18 +329,28 @@ pub fn judge(
     paths: usize,
     cut: usize,
     rows: &mut [u64; 64],
-) -> Verdict
+) -> CallAnswer
     ensures { λ r. ⌜ Judged (callOf n (now (table .entry)) s t k log paths cut) (now (rows .exit)) r ⌝ }
 {
     let map = judge_map(n, table, rows);
     let on_map = map.verdict;
     if refusals::number_of(on_map) != 0 {
-        return on_map;
+        return CallAnswer {
+            verdict: on_map,
+            passing: 0,
+        };
     }
     let on_pair = judge_pair(n, s, t, k);
     if refusals::number_of(on_pair) != 0 {
-        return on_pair;
+        return CallAnswer {
+            verdict: on_pair,
+            passing: 0,
+        };
     }
-    let a = steps(rows, map.total, n, s, t);
-    judge_room(n, k, a, log, paths, cut)
+    let inner = passing(map.ordinary, s, t);
+    let a = steps(rows, map.total, inner, s, t);
+    CallAnswer {
+        verdict: judge_room(n, k, a, log, paths, cut),
+        passing: inner,
+    }
 }

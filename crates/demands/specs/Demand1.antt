@@ -23,7 +23,7 @@ pub record Demand1 (call : Call) : Type 0 where
   pub refused : (c : ℕ) → (c ≡ 0 → ⊥) → (outcome call .refusal ≡ c) ↔ Gives (conditions call) c
   -- 0 is given exactly when none holds
   pub accepted : (outcome call .refusal ≡ 0) ↔ NoneHolds (conditions call)
-  -- for 3, 12 and 13 the place is that of the first cell at fault, which is of that kind and of no kind before it; no other answer has a place
+  -- for 3 and 13 the place is that of the first cell at fault, which is of that kind and of no kind before it; no other answer has a place
   pub place-of-cell : ofCell (outcome call .refusal) ≡ true → FirstIs (call .site .table) (call .site .n) (outcome call .refusal) (outcome call .place)
   pub no-place : ofCell (outcome call .refusal) ≡ false → outcome call .place ≡ 0
   -- a refused run leaves nothing

@@ -12,7 +12,7 @@ use Rattle.tokens.specs.Run.{notesOf, timesLeaving}
 use Rattle.outcome.specs.Leaves.{runOf, pathsFound, cutFound, outcome}
 
 pub record Demand2 (call : Call) : Type 0 where
-  -- each is a path from S to T of the map and repeats no radio; any two share none but the ends; the direct link serves one at most
+  -- each is a path from S to T of the map, goes through no handheld and repeats no radio; any two share none but the ends; the direct link serves one at most
   pub disjoint : DisjointPaths (call .site) (pathsFound call)
   -- they are as many as the outcome says
   pub number : length (pathsFound call) ≡ outcome call .paths

@@ -57,19 +57,23 @@ const REACH: usize = 10;
 
 const SPOKES: usize = 11;
 
-const SPOILED: usize = 12;
+const HANDS: usize = 12;
 
-const HELD: usize = 13;
+const SPOILED: usize = 13;
 
-const KEPT: usize = 14;
+const HELD: usize = 14;
+
+const KEPT: usize = 15;
 
 // The radios below `circle` stand in a circle, each linked to those at most `reach` places away; radio 0 is linked
-// to the `spokes` radios after those too. The cell at place `spoiled` holds `held` instead, where the table has that place.
+// to the `spokes` radios after those too. The radios below `hands` are handhelds. The cell at place `spoiled` holds `held`
+// instead, where the table has that place.
 struct Map {
     radios: usize,
     circle: usize,
     reach: usize,
     spokes: usize,
+    hands: usize,
     spoiled: usize,
     held: u8,
 }
@@ -187,6 +191,9 @@ fn cell(map: Map, place: usize) -> u8 {
     }
     let row = place / radios;
     let column = place % radios;
+    if row == column && row < map.hands {
+        return 1;
+    }
     if is_linked(map, row, column) || is_linked(map, column, row) {
         return 1;
     }
@@ -208,6 +215,7 @@ fn map_in(line: &[u8]) -> Map {
         circle: number_in(line, CIRCLE),
         reach: number_in(line, REACH),
         spokes: number_in(line, SPOKES),
+        hands: number_in(line, HANDS),
         spoiled: number_in(line, SPOILED),
         held: byte_in(line, HELD),
     }

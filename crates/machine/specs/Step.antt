@@ -8,7 +8,7 @@ use lib.Dec.{eqb}
 use Rattle.site.specs.Map.{Site, inHalf}
 use Rattle.tokens.specs.Rules.{Plan, State, Next, rising, innerStep, gets, waits}
 use Rattle.openings.specs.Rows.{Open, Untried}
-use Rattle.radios.specs.Links.{RowsOfLinks}
+use Rattle.radios.specs.Links.{RowsOfLinks, Passing}
 use Rattle.machine.specs.declared.Task.{Task}
 use Rattle.machine.specs.declared.Stage.{Stage}
 use Rattle.machine.specs.declared.Stage.the-variants.{Searching, Declining, Granting, Won, Carrying}
@@ -25,7 +25,7 @@ pub record Fits (task : Task) : Type 0 where
   pub differ : task .s ≡ task .t → ⊥
   pub few-wanted : task .k ≤ mostPaths
 
--- the numbers and the rows of links are the plan's
+-- the numbers, the radios that pass and the rows of links are the plan's
 pub record Made (plan : Plan) (task : Task) (links : List ℕ) : Type 0 where
   pub fits : Fits task
   pub radios : plan .site .n ≡ task .n
@@ -33,6 +33,7 @@ pub record Made (plan : Plan) (task : Task) (links : List ℕ) : Type 0 where
   pub sink : plan .site .T ≡ task .t
   pub wanted : plan .k ≡ task .k
   pub order : plan .order ≡ rising
+  pub passing : Passing (plan .site) (task .passing)
   pub linked : RowsOfLinks (plan .site .table) (plan .site .n) links
 
 -- a half that searches, now or once it is declined, holds what it has not tried from this place on

@@ -12,12 +12,13 @@ ghost use Rattle.machine.specs.Step.{Fits, Made, TopUntried, Agrees, Rea
 use tokens::Answer;
 use tokens::Kind;
 
-// The numbers of a survey: radios, the two ends, and the paths wanted.
+// The numbers of a survey: radios, the two ends, the paths wanted, and the set of the radios that may stand inside a path.
 pub struct Task {
     pub n: usize,
     pub s: usize,
     pub t: usize,
     pub k: usize,
+    pub passing: u64,
 }
 
 // What happens next, as the definition's states have it.

@@ -8,7 +8,7 @@ use lib.ListN.{getD}
 use borrow.Author.Tests.{le-ltb}
 use Rattle.basics.specs.Counting.{sum, firstOf}
 use Rattle.buffers.specs.Zeros.{zerosAfter}
-use Rattle.site.specs.Map.{linked, links, exists, passes, insideStep, linkStep, step, A}
+use Rattle.site.specs.Map.{linked, links, handheld, exists, passes, insideStep, linkStep, step, A}
 use Rattle.refusals.specs.Refusals.{cellFinding, findingAt, firstBad, finding, mapVerdict, pairVerdict, roomVerdict, verdict}
 use Rattle.tokens.specs.Rules.{mayWalk, candidate, canTry, nextPlace, gets, nextMarked, passOn, release, carry, tries, search, reversed, grant, decline, goOn, innerStep, start}
 use Rattle.tokens.specs.Run.{runOn, walked, cutItem, itemOf}
@@ -29,7 +29,7 @@ linkedPair = apart ++ (108 ∷ 105 ∷ 110 ∷ 107 ∷ 9 ∷ 48 ∷ 9 ∷ 49 ∷
 
 -- report 1 short 0 1 0
 apart-sheet : sheet apart ≡ 114 ∷ 101 ∷ 112 ∷ 111 ∷ 114 ∷ 116 ∷ 9 ∷ 49 ∷ 9 ∷ 115 ∷ 104 ∷ 111 ∷ 114 ∷ 116 ∷ 9 ∷ 48 ∷ 9 ∷ 49 ∷ 9 ∷ 48 ∷ 10 ∷ []
-unfolding sum firstOf linked links exists passes insideStep linkStep step A cellFinding findingAt firstBad finding mapVerdict pairVerdict roomVerdict verdict mayWalk candidate canTry nextPlace gets nextMarked passOn release carry tries search reversed grant decline goOn innerStep start runOn walked cutItem itemOf runOf pathsFound cutFound outcome pieces same allDigits value digits headOf lineOf wrongLine linesOf came faultLine tableWith surveyFor surveyOf refusedLine reportLine radioFields pathLines cutLines sheetOf sheet
+unfolding sum firstOf linked links handheld exists passes insideStep linkStep step A cellFinding findingAt firstBad finding mapVerdict pairVerdict roomVerdict verdict mayWalk candidate canTry nextPlace gets nextMarked passOn release carry tries search reversed grant decline goOn innerStep start runOn walked cutItem itemOf runOf pathsFound cutFound outcome pieces same allDigits value digits headOf lineOf wrongLine linesOf came faultLine tableWith surveyFor surveyOf refusedLine reportLine radioFields pathLines cutLines sheetOf sheet
 apart-sheet = refl
 
 -- report 1 full 1 1 3, and the path 0 1
@@ -37,7 +37,7 @@ linked-sheet :
     sheet linkedPair
     ≡ 114 ∷ 101 ∷ 112 ∷ 111 ∷ 114 ∷ 116 ∷ 9 ∷ 49 ∷ 9 ∷ 102 ∷ 117 ∷ 108 ∷ 108 ∷ 9 ∷ 49 ∷ 9 ∷ 49 ∷ 9 ∷ 51 ∷ 10
     ∷ 112 ∷ 97 ∷ 116 ∷ 104 ∷ 9 ∷ 49 ∷ 9 ∷ 48 ∷ 9 ∷ 49 ∷ 10 ∷ []
-unfolding sum firstOf linked links exists passes insideStep linkStep step A cellFinding findingAt firstBad finding mapVerdict pairVerdict roomVerdict verdict mayWalk candidate canTry nextPlace gets nextMarked passOn release carry tries search reversed grant decline goOn innerStep start runOn walked cutItem itemOf runOf pathsFound cutFound outcome pieces same allDigits value digits headOf lineOf wrongLine linesOf came faultLine tableWith surveyFor surveyOf refusedLine reportLine radioFields pathLines cutLines sheetOf sheet
+unfolding sum firstOf linked links handheld exists passes insideStep linkStep step A cellFinding findingAt firstBad finding mapVerdict pairVerdict roomVerdict verdict mayWalk candidate canTry nextPlace gets nextMarked passOn release carry tries search reversed grant decline goOn innerStep start runOn walked cutItem itemOf runOf pathsFound cutFound outcome pieces same allDigits value digits headOf lineOf wrongLine linesOf came faultLine tableWith surveyFor surveyOf refusedLine reportLine radioFields pathLines cutLines sheetOf sheet
 linked-sheet = refl
 
 module _ (room : ℕ) (enough : sheetRoom ≤ room) where

@@ -6,7 +6,7 @@ use Prim.Native.Nat.{ℕ, _+_, _-_, _*_}
 use lib.Dec.{eqb}
 use lib.ListN.{length, set, replicate}
 use Rattle.basics.specs.Counting.{sum, firstOf}
-use Rattle.site.specs.Map.{linked, links, exists, passes, insideStep, linkStep, step, A}
+use Rattle.site.specs.Map.{linked, links, handheld, exists, passes, insideStep, linkStep, step, A}
 use Rattle.refusals.specs.Refusals.{Call, callOf, cellFinding, findingAt, firstBad, finding, mapVerdict, pairVerdict, roomVerdict, verdict}
 use Rattle.tokens.specs.Rules.{mayWalk, candidate, canTry, nextPlace, gets, nextMarked, passOn, release, carry, tries, search, reversed, grant, decline, goOn, innerStep, start}
 use Rattle.tokens.specs.Run.{runOn, walked, cutItem, itemOf}
@@ -16,7 +16,7 @@ use Rattle.path_lists.specs.Bytes.{pathBytes}
 use Rattle.log.specs.Bytes.{logBytes}
 use Rattle.buffers.specs.Zeros.{zerosAfter}
 
--- ---- a map given by its links
+-- ---- a map given by its links; a handheld is linked to itself
 
 abbrev withLinks : ℕ → List ℕ → List (ℕ × ℕ) → List ℕ
 withLinks n table [] = table
@@ -133,8 +133,20 @@ rows =
 
 -- every row of the table is what the definitions say
 pub ten-maps : map (λ (row : MapRow). resultOf (row .made)) rows ≡ map (λ (row : MapRow). row .result) rows
-unfolding sum firstOf linked links exists passes insideStep linkStep step A cellFinding findingAt firstBad finding mapVerdict pairVerdict roomVerdict verdict mayWalk candidate canTry nextPlace gets nextMarked passOn release carry tries search reversed grant decline goOn innerStep start runOn walked cutItem itemOf runOf pathsFound cutFound pathBytes logBytes outcome logLeft pathsLeft cutLeft
+unfolding sum firstOf linked links handheld exists passes insideStep linkStep step A cellFinding findingAt firstBad finding mapVerdict pairVerdict roomVerdict verdict mayWalk candidate canTry nextPlace gets nextMarked passOn release carry tries search reversed grant decline goOn innerStep start runOn walked cutItem itemOf runOf pathsFound cutFound pathBytes logBytes outcome logLeft pathsLeft cutLeft
 ten-maps = refl
+
+-- document 02, 3/13: a chain whose middle radio is a handheld, two linked handhelds as S and T, and Q with its radio 6 a handheld
+abbrev handhelds : List MapRow
+handhelds =
+    accepts 3 ((0, 1) ∷ (1, 2) ∷ (1, 1) ∷ []) 0 2 1 false [] 1 2 [] 2
+    ∷ accepts 2 ((0, 1) ∷ (0, 0) ∷ (1, 1) ∷ []) 0 1 1 true ((0 ∷ 1 ∷ []) ∷ []) 1 3 [] 1
+    ∷ accepts 8 ((6, 6) ∷ Q) 0 7 2 false ((0 ∷ 1 ∷ 2 ∷ 3 ∷ 7 ∷ []) ∷ []) 2 57 (3 ∷ []) 19
+    ∷ []
+
+pub three-maps : map (λ (row : MapRow). resultOf (row .made)) handhelds ≡ map (λ (row : MapRow). row .result) handhelds
+unfolding sum firstOf linked links handheld exists passes insideStep linkStep step A cellFinding findingAt firstBad finding mapVerdict pairVerdict roomVerdict verdict mayWalk candidate canTry nextPlace gets nextMarked passOn release carry tries search reversed grant decline goOn innerStep start runOn walked cutItem itemOf runOf pathsFound cutFound pathBytes logBytes outcome logLeft pathsLeft cutLeft
+three-maps = refl
 
 -- ---- the case given whole
 
@@ -169,5 +181,5 @@ wholeOf call = record { numbers = outcome call; log = logLeft call; pathList = p
 pub case-Q :
     wholeOf (callOf 8 (tableOf 8 Q) 0 7 3 560 15 3)
     ≡ record { numbers = shortOfQ; log = zerosAfter 560 logOfQ; pathList = zerosAfter 15 (4 ∷ 0 ∷ 1 ∷ 6 ∷ 7 ∷ 4 ∷ 0 ∷ 4 ∷ 3 ∷ 7 ∷ []); cutList = 1 ∷ 4 ∷ 0 ∷ [] }
-unfolding sum firstOf linked links exists passes insideStep linkStep step A cellFinding findingAt firstBad finding mapVerdict pairVerdict roomVerdict verdict mayWalk candidate canTry nextPlace gets nextMarked passOn release carry tries search reversed grant decline goOn innerStep start runOn walked cutItem itemOf runOf pathsFound cutFound pathBytes logBytes outcome logLeft pathsLeft cutLeft
+unfolding sum firstOf linked links handheld exists passes insideStep linkStep step A cellFinding findingAt firstBad finding mapVerdict pairVerdict roomVerdict verdict mayWalk candidate canTry nextPlace gets nextMarked passOn release carry tries search reversed grant decline goOn innerStep start runOn walked cutItem itemOf runOf pathsFound cutFound pathBytes logBytes outcome logLeft pathsLeft cutLeft
 case-Q = refl

@@ -3,7 +3,7 @@ use mathlib.Core.Path.{_≡_, refl}
 use mathlib.Core.List.{List, [], _∷_}
 use Prim.Native.Nat.{ℕ}
 use Rattle.basics.specs.Counting.{sum, firstOf}
-use Rattle.site.specs.Map.{linked, links, exists, passes, insideStep, linkStep, step, A}
+use Rattle.site.specs.Map.{linked, links, handheld, exists, passes, insideStep, linkStep, step, A}
 use Rattle.refusals.specs.Refusals.{cellFinding, findingAt, firstBad, finding, mapVerdict, pairVerdict, roomVerdict, verdict}
 use Rattle.tokens.specs.Rules.{mayWalk, candidate, canTry, nextPlace, gets, nextMarked, passOn, release, carry, tries, search, reversed, grant, decline, goOn, innerStep, start}
 use Rattle.tokens.specs.Run.{runOn, walked, cutItem, itemOf}
@@ -40,5 +40,5 @@ sheetOfQ =
     ∷ []
 
 pub sheet-of-Q : sheet textOfQ ≡ sheetOfQ
-unfolding sum firstOf linked links exists passes insideStep linkStep step A cellFinding findingAt firstBad finding mapVerdict pairVerdict roomVerdict verdict mayWalk candidate canTry nextPlace gets nextMarked passOn release carry tries search reversed grant decline goOn innerStep start runOn walked cutItem itemOf runOf pathsFound cutFound outcome pieces same allDigits value digits headOf lineOf wrongLine linesOf came faultLine tableWith surveyFor surveyOf refusedLine reportLine radioFields pathLines cutLines sheetOf sheet
+unfolding sum firstOf linked links handheld exists passes insideStep linkStep step A cellFinding findingAt firstBad finding mapVerdict pairVerdict roomVerdict verdict mayWalk candidate canTry nextPlace gets nextMarked passOn release carry tries search reversed grant decline goOn innerStep start runOn walked cutItem itemOf runOf pathsFound cutFound outcome pieces same allDigits value digits headOf lineOf wrongLine linesOf came faultLine tableWith surveyFor surveyOf refusedLine reportLine radioFields pathLines cutLines sheetOf sheet
 sheet-of-Q = refl

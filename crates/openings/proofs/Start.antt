@@ -1,6 +1,6 @@
 -- The rows at the start, row by row. Assumes nothing.
 use mathlib.Core.Path.{_≡_, refl, sym, ap, _∙_}
-use mathlib.Core.Bool.{false, _&&_, and-false}
+use mathlib.Core.Bool.{false, _&&_}
 use mathlib.Core.List.{List}
 use Prim.Native.Nat.{ℕ, _+_, _*_, _<_}
 use native.Mathlib.Decide.{ℕ-discrete, decLt}
@@ -21,21 +21,8 @@ use Rattle.openings.proofs.Walks.{from-in, from-out, pair, walk-joined,
 
 -- ---- one row
 
-module _ (site : Site) (u : ℕ) where
-  pub not-S : u ≡ site .S → passes site u ≡ false
-  unfolding passes
-  not-S e = rw (eq-eqb u (site .S) e, and-false) refl
-
-  pub not-T : u ≡ site .T → passes site u ≡ false
-  unfolding passes
-  not-T e = rw (eq-eqb u (site .T) e) (simp and-false)
-
-  -- where a radio does not pass its in half walks nowhere
-  pub no-way : passes site u ≡ false → (v : ℕ) → member v 0 ≡ (eqb v u && passes site u)
-  no-way e v = member-empty v ∙ sym (rw (e, and-false) refl)
-
-  pub T-sends-none : u ≡ site .T → (v : ℕ) → member v 0 ≡ step site (outHalf u) (inHalf v)
-  T-sends-none e v = member-empty v ∙ sym (rw e (none-from-T site v))
+pub T-sends-none : (site : Site) (u : ℕ) → u ≡ site .T → (v : ℕ) → member v 0 ≡ step site (outHalf u) (inHalf v)
+T-sends-none site u e v = member-empty v ∙ sym (rw e (none-from-T site v))
 
 -- row h is right where nothing is marked
 abbrev StartsAt : Site → ℕ → ℕ → Type 0

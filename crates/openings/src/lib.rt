@@ -7,19 +7,19 @@ ghost use lib.Dec.{eqb};
 ghost use lib.ListN.{getD, replicate};
 ghost use Rattle.radios.specs.Member.{member};
 ghost use Rattle.site.specs.Limits.{mostRadios};
-ghost use Rattle.site.specs.Map.{Site, inHalf, outHalf, step, passes};
+ghost use Rattle.site.specs.Map.{Site, inHalf, outHalf, step};
 ghost use Rattle.tokens.specs.Rules.{Marks, mayWalk, unmarked, reversed, nextMarked};
 ghost use Rattle.openings.specs.Rows.{across, Open, Joined, OnSteps, Untried, NextHalf, placeInOrder, orNone};
-ghost use Rattle.radios.specs.Links.{RowsOfLinks};
+ghost use Rattle.radios.specs.Links.{RowsOfLinks, Passing};
 
 // ---- the start: nothing is marked
 
-// What the in half of radio u of the map can walk to: its own out half, if u may stand inside a path.
-fn inside(s: usize, t: usize, u: usize) -> u64
+// What the in half of radio u can walk to: its own out half, if u is one of those that may stand inside a path.
+fn inside(passing: u64, u: usize) -> u64
     requires { ⌜ u < mostRadios ⌝ }
-    ensures { λ r. ⌜ ((site : Site) (v : ℕ) → u < site .n → site .S ≡ s → site .T ≡ t → member v r ≡ (eqb v u && passes site u)) ⌝ }
+    ensures { λ r. ⌜ ((v : ℕ) → member v r ≡ (eqb v u && member u passing)) ⌝ }
 {
-    if u == s || u == t {
+    if !radios::has(passing, u) {
         return 0;
     }
     radios::with(0, u)
@@ -37,13 +37,13 @@ fn outward(s: usize, t: usize, row: u64, u: usize) -> u64
 }
 
 // The rows at the start, where they were empty.
-pub fn fill(n: usize, s: usize, t: usize, links: &[u64; 64], rows: &mut [u64; 128])
+pub fn fill(n: usize, s: usize, t: usize, passing: u64, links: &[u64; 64], rows: &mut [u64; 128])
     requires { ⌜ (s < mostRadios) × (n ≤ mostRadios) × (now rows ≡ replicate 128 0) ⌝ }
-    ensures { λ r. ⌜ ((site : Site) → site .n ≡ n → site .S ≡ s → site .T ≡ t → RowsOfLinks (site .table) (site .n) (now (links .entry)) → Open site unmarked (now (rows .exit))) ⌝ }
+    ensures { λ r. ⌜ ((site : Site) → site .n ≡ n → site .S ≡ s → site .T ≡ t → Passing site passing → RowsOfLinks (site .table) (site .n) (now (links .entry)) → Open site unmarked (now (rows .exit))) ⌝ }
 {
     let all = &mut rows[..];
     for u in 0..n {
-        all[2 * u] = inside(s, t, u);
+        all[2 * u] = inside(passing, u);
         all[2 * u + 1] = outward(s, t, links[u], u);
     }
 }

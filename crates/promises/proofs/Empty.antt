@@ -7,7 +7,7 @@ use native.Mathlib.Omega.{arith}
 use lib.Dec.{eqb}
 use lib.ListN.{length, getD}
 use Rattle.basics.specs.Counting.{oneIf, sum, firstOf}
-use Rattle.site.specs.Map.{linked, links, exists, passes, insideStep, linkStep, step, A}
+use Rattle.site.specs.Map.{linked, links, handheld, exists, passes, insideStep, linkStep, step, A}
 use Rattle.refusals.specs.Refusals.{Call, callOf, cellFinding, findingAt, firstBad, finding, mapVerdict, pairVerdict, roomVerdict, verdict}
 use Rattle.tokens.specs.Rules.{mayWalk, candidate, canTry, nextPlace, gets, nextMarked, passOn, release, carry, tries, search, reversed, grant, decline, goOn, innerStep, start}
 use Rattle.tokens.specs.Run.{runOn, walked, cutItem, itemOf}
@@ -29,7 +29,7 @@ abbrev diamond : Call
 diamond = callOf 4 (0 ∷ 1 ∷ 1 ∷ 0 ∷ 1 ∷ 0 ∷ 1 ∷ 1 ∷ 1 ∷ 1 ∷ 0 ∷ 1 ∷ 0 ∷ 1 ∷ 1 ∷ 0 ∷ []) 0 3 2 160 8 2
 
 accepts-pair : outcome linkedPair .refusal ≡ 0
-unfolding sum firstOf linked links exists passes insideStep linkStep step A cellFinding findingAt firstBad finding mapVerdict pairVerdict roomVerdict verdict outcome
+unfolding sum firstOf linked links handheld exists passes insideStep linkStep step A cellFinding findingAt firstBad finding mapVerdict pairVerdict roomVerdict verdict outcome
 accepts-pair = refl
 
 -- a program that refuses everything
@@ -38,7 +38,7 @@ not-all-refused numbers log paths cut p refused = refused (ap (λ (o : Outcome).
 
 -- one fixed sheet for all maps
 pub not-one-sheet : (numbers : Outcome) (log paths cut : List ℕ) → Promise linkedPair numbers log paths cut → Promise apart numbers log paths cut → ⊥
-unfolding sum firstOf linked links exists passes insideStep linkStep step A cellFinding findingAt firstBad finding mapVerdict pairVerdict roomVerdict verdict mayWalk candidate canTry nextPlace gets nextMarked passOn release carry tries search reversed grant decline goOn innerStep start runOn walked cutItem itemOf runOf pathsFound cutFound pathBytes logBytes outcome logLeft pathsLeft cutLeft
+unfolding sum firstOf linked links handheld exists passes insideStep linkStep step A cellFinding findingAt firstBad finding mapVerdict pairVerdict roomVerdict verdict mayWalk candidate canTry nextPlace gets nextMarked passOn release carry tries search reversed grant decline goOn innerStep start runOn walked cutItem itemOf runOf pathsFound cutFound pathBytes logBytes outcome logLeft pathsLeft cutLeft
 not-one-sheet numbers log paths cut p q =
     let one : numbers .paths ≡ 1 = ap (λ (o : Outcome). o .paths) (p .numbers-are) in
     let none : numbers .paths ≡ 0 = ap (λ (o : Outcome). o .paths) (q .numbers-are) in
@@ -46,7 +46,7 @@ not-one-sheet numbers log paths cut p q =
 
 -- a program that writes nothing leaves what was there before: a log whose first byte was no 1 is ruled out
 pub not-nothing-written : (numbers : Outcome) (before paths cut : List ℕ) → (getD before 0 0 ≡ 1 → ⊥) → Promise linkedPair numbers before paths cut → ⊥
-unfolding sum firstOf linked links exists passes insideStep linkStep step A cellFinding findingAt firstBad finding mapVerdict pairVerdict roomVerdict verdict mayWalk candidate canTry nextPlace gets nextMarked passOn release carry tries search reversed grant decline goOn innerStep start runOn walked cutItem itemOf runOf pathsFound cutFound pathBytes logBytes outcome logLeft pathsLeft cutLeft
+unfolding sum firstOf linked links handheld exists passes insideStep linkStep step A cellFinding findingAt firstBad finding mapVerdict pairVerdict roomVerdict verdict mayWalk candidate canTry nextPlace gets nextMarked passOn release carry tries search reversed grant decline goOn innerStep start runOn walked cutItem itemOf runOf pathsFound cutFound pathBytes logBytes outcome logLeft pathsLeft cutLeft
 not-nothing-written numbers before paths cut other p = other (ap (λ (log : List ℕ). getD log 0 0) (p .log-is))
 
 -- how often a log of so many messages has a PMT to S's out half, number 1, in this round
@@ -57,7 +57,7 @@ granted round (suc messages) log =
 
 -- all paths found in round 1, with a second round for show: S has one PMT in each of the two rounds
 pub not-for-show : (numbers : Outcome) (log paths cut : List ℕ) → Promise diamond numbers log paths cut → (numbers .rounds ≡ 2) × (granted 1 24 log ≡ 1) × (granted 2 24 log ≡ 1)
-unfolding sum firstOf linked links exists passes insideStep linkStep step A cellFinding findingAt firstBad finding mapVerdict pairVerdict roomVerdict verdict mayWalk candidate canTry nextPlace gets nextMarked passOn release carry tries search reversed grant decline goOn innerStep start runOn walked cutItem itemOf runOf pathsFound cutFound pathBytes logBytes outcome logLeft pathsLeft cutLeft
+unfolding sum firstOf linked links handheld exists passes insideStep linkStep step A cellFinding findingAt firstBad finding mapVerdict pairVerdict roomVerdict verdict mayWalk candidate canTry nextPlace gets nextMarked passOn release carry tries search reversed grant decline goOn innerStep start runOn walked cutItem itemOf runOf pathsFound cutFound pathBytes logBytes outcome logLeft pathsLeft cutLeft
 not-for-show numbers log paths cut p = (
   ap (λ (o : Outcome). o .rounds) (p .numbers-are),
   ap (granted 1 24) (p .log-is),

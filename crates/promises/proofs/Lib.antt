@@ -1,3 +1,4 @@
 pub mod Settled
 pub mod Empty
 pub mod OwnPaths
+pub mod Handhelds

@@ -1,28 +1,27 @@
 -- Demand 1 over the refusals: each number is given exactly when its own condition holds and none before it does. Assumes nothing.
 use mathlib.Core.Path.{_≡_, refl, sym, ap, _∙_}
-use mathlib.Core.Bool.{Bool, true, false, not, _&&_, _||_, cond, true≢false, false≢true}
+use mathlib.Core.Bool.{Bool, true, false, not, _||_, cond, true≢false, false≢true}
 use mathlib.Core.List.{List, [], _∷_, _++_}
 use mathlib.Core.Logic.{_⊎_, _↔_, inl, inr}
 use Prim.Native.Nat.{ℕ, _+_, _*_, _/_, _%_, _<_, _≤_}
 use native.Mathlib.Omega.{arith}
 use native.Mathlib.Decide.{decLt}
-use native.Mathlib.Nat.{div-add-mod'}
 use lib.Dec.{eqb, ltb}
 use lib.ListN.{getD}
 use borrow.Author.Tests.{eq-eqb, ne-eqb, lt-ltb, le-ltb}
 use Rattle.basics.specs.Counting.{First}
 use Rattle.basics.specs.Numbered.{Conditions, Gives, NoneHolds, Lawful}
-use Rattle.basics.proofs.Bools.{clash, or-left, or-right, Tells, tells-below, tells-not-below, tells-equal, tells-or, tells-and, tells-not, tells-same}
+use Rattle.basics.proofs.Bools.{clash, or-left, or-right, Tells, tells-below, tells-not-below, tells-equal, tells-or, tells-not, tells-same}
 use Rattle.basics.proofs.Counting.{first-from}
 use Rattle.basics.proofs.Numbered.{law-none, law-first, law-one, law-after, law-each}
 use Rattle.site.specs.Limits.{mostRadios, mostPaths}
 use Rattle.site.specs.Map.{A}
 use Rattle.refusals.specs.Refusals.{Call, cellFinding, findingAt, isBad, badCell, firstBad, finding, refuse, passed, _orElse_, noSize, sizeVerdict, mapVerdict, pairVerdict, roomVerdict, verdict, number, placeOf}
-use Rattle.refusals.specs.Conditions.{OnDiagonal, Unlike, kinds, ofCell, Fault, no-bit, diagonal, mirror, FirstFault, FirstIs, sizeConditions, cellConditions, mapConditions, pairConditions, roomConditions, conditions}
+use Rattle.refusals.specs.Conditions.{kinds, ofCell, Fault, no-bit, mirror, FirstFault, FirstIs, sizeConditions, cellConditions, mapConditions, pairConditions, roomConditions, conditions}
 use Rattle.refusals.specs.declared.Finding.{Finding}
-use Rattle.refusals.specs.declared.Finding.the-variants.{Sound, Value, Diagonal, Mirror}
+use Rattle.refusals.specs.declared.Finding.the-variants.{Sound, Value, Mirror}
 use Rattle.refusals.specs.declared.Verdict.{Verdict}
-use Rattle.refusals.specs.declared.Verdict.the-variants.{Accepted, Radios, TableLength, CellValue, CellDiagonal, CellMirror, Links, Ends, Wanted, Log, Lists, Records, PathList}
+use Rattle.refusals.specs.declared.Verdict.the-variants.{Accepted, Radios, TableLength, CellValue, CellMirror, Links, Ends, Wanted, Log, Lists, Records, PathList}
 
 -- ---- one cell
 
@@ -33,13 +32,11 @@ numberOf found = number (passed found)
 pub finds-nothing : (found : Finding) → isBad found ≡ false → found ≡ Sound
 finds-nothing Sound e = refl
 finds-nothing (Value place) e = absurd (true≢false e)
-finds-nothing (Diagonal place) e = absurd (true≢false e)
 finds-nothing (Mirror place) e = absurd (true≢false e)
 
 pub bad-number : (found : Finding) → isBad found ≡ true → numberOf found ≡ 0 → ⊥
 bad-number Sound e z = false≢true e
 bad-number (Value place) e z = omega arith
-bad-number (Diagonal place) e z = omega arith
 bad-number (Mirror place) e z = omega arith
 
 -- and only a bad one has
@@ -56,25 +53,18 @@ module _ (table : List ℕ) (n : ℕ) where
   unfolding cellFinding findingAt
   kind-law place =
       law-first numberOf (Value place) _ (λ e. omega arith) (tells-same _ (tells-below 1 (getD table place 0)) ((λ p. (λ e. omega arith, λ e. omega arith)), (λ p. omega (arith, p .0, p .1))))
-      (law-first numberOf (Diagonal place) _ (λ e. omega arith) (tells-and _ _ (tells-equal _ _) (tells-not _ (tells-equal _ _)))
       (law-first numberOf (Mirror place) _ (λ e. omega arith) (tells-not _ (tells-equal _ _))
-      (law-none numberOf Sound refl)))
+      (law-none numberOf Sound refl))
 
   -- and its place
   fault-place : (place : ℕ) → badCell table n place ≡ true → placeOf (passed (findingAt table n place)) ≡ place
   unfolding cellFinding findingAt
-  fault-place place = go (ltb 1 cell) (eqb (place / n) (place % n) && not (eqb cell 0)) (not (eqb cell (getD table (place % n * n + place / n) 0)))
+  fault-place place = go (ltb 1 (getD table place 0)) (not (eqb (getD table place 0) (getD table (place % n * n + place / n) 0)))
     where
-      cell : ℕ
-      cell = getD table place 0
-
-      go : (value own other : Bool)
-          → let found = cond value (Value place) (cond own (Diagonal place) (cond other (Mirror place) Sound)) in
-          isBad found ≡ true → placeOf (passed found) ≡ place
-      go true own other e = refl
-      go false true other e = refl
-      go false false true e = refl
-      go false false false e = absurd (false≢true e)
+      go : (value other : Bool) → let found = cond value (Value place) (cond other (Mirror place) Sound) in isBad found ≡ true → placeOf (passed found) ≡ place
+      go true other e = refl
+      go false true e = refl
+      go false false e = absurd (false≢true e)
 
   -- a cell is bad exactly if it has a fault
   pub bad-cell : (place : ℕ) → Tells (badCell table n place) (Fault table n place)
@@ -85,20 +75,12 @@ module _ (table : List ℕ) (n : ℕ) where
 
       of-kind : {c : ℕ} → Gives (kinds table n place) c → Fault table n place
       of-kind (inl (e, p)) = no-bit p
-      of-kind (inr (p₁, inl (e, p))) = diagonal p
-      of-kind (inr (p₁, inr (p₂, inl (e, p)))) = mirror p
-      of-kind (inr (p₁, inr (p₂, inr (p₃, g)))) = absurd g
+      of-kind (inr (p₁, inl (e, p))) = mirror p
+      of-kind (inr (p₁, inr (p₂, g))) = absurd g
 
       no-kind : Fault table n place → NoneHolds (kinds table n place) → ⊥
       no-kind (no-bit p) none = none .0 p
-      no-kind (diagonal p) none = none .1 .0 p
-      no-kind (mirror p) none = none .1 .1 .0 p
-
--- a cell on the diagonal is its own mirror cell, so no cell is of both kinds
-pub own-mirror : (table : List ℕ) (n place : ℕ) → OnDiagonal table n place → Unlike table n place → ⊥
-own-mirror table n place (on, some) unlike =
-    let itself : place % n * n + place / n ≡ place = rw (sym on) (ap (λ (x : ℕ). place / n * n + x) on ∙ div-add-mod' place n) in
-    unlike (ap (λ (x : ℕ). getD table x 0) (sym itself))
+      no-kind (mirror p) none = none .1 .0 p
 
 -- ---- the first of them
 
@@ -198,9 +180,6 @@ module _ (table : List ℕ) (n : ℕ) where
   exactly-3 : Exactly 3
   exactly-3 = kind-exactly table n 3 (λ e. omega arith)
 
-  exactly-12 : Exactly 12
-  exactly-12 = kind-exactly table n 12 (λ e. omega arith)
-
   exactly-13 : Exactly 13
   exactly-13 = kind-exactly table n 13 (λ e. omega arith)
 
@@ -208,13 +187,12 @@ module _ (table : List ℕ) (n : ℕ) where
   no-other : NoneHolds (cellConditions table n) → (found : Finding) → numberOf (finding table n) ≡ numberOf found → numberOf (finding table n) ≡ 0
   no-other none Sound e = e
   no-other none (Value place) e = absurd (none .0 (exactly-3 .0 e))
-  no-other none (Diagonal place) e = absurd (none .1 .0 (exactly-12 .0 e))
-  no-other none (Mirror place) e = absurd (none .1 .1 .0 (exactly-13 .0 e))
+  no-other none (Mirror place) e = absurd (none .1 .0 (exactly-13 .0 e))
 
   pub cells-exact : Exact table n (cellConditions table n) (passed (finding table n))
   cells-exact =
       record {
-        law = law-each number _ _ (λ e. omega arith, exactly-3, (λ e. omega arith, exactly-12, (λ e. omega arith, exactly-13, tt))) (λ none. no-other none (finding table n) refl);
+        law = law-each number _ _ (λ e. omega arith, exactly-3, (λ e. omega arith, exactly-13, tt)) (λ none. no-other none (finding table n) refl);
         cell = λ e. first-told table n (bad-told (finding table n) (λ zero. clash e (ap ofCell zero)));
       }
 
@@ -286,7 +264,6 @@ no-place Accepted h = refl
 no-place Radios h = refl
 no-place TableLength h = refl
 no-place (CellValue place) h = absurd (true≢false h)
-no-place (CellDiagonal place) h = absurd (true≢false h)
 no-place (CellMirror place) h = absurd (true≢false h)
 no-place Links h = refl
 no-place Ends h = refl

@@ -1,4 +1,4 @@
--- The column "given exactly when" of document 01's table of refusals, with 12 and 13 of document 02, as facts about a call.
+-- The column "given exactly when" of document 01's table of refusals, with 13 of document 02, as facts about a call.
 use mathlib.Core.Path.{_≡_}
 use mathlib.Core.Bool.{Bool, _||_}
 use mathlib.Core.List.{List, [], _∷_, _++_}
@@ -12,15 +12,11 @@ use Rattle.site.specs.Map.{links, A}
 use Rattle.log.specs.Bytes.{messageBytes}
 use Rattle.refusals.specs.Refusals.{Call}
 
--- ---- 3, 12 and 13: the kinds of fault
+-- ---- 3 and 13: the kinds of fault
 
 -- the cell at this place is not 0 or 1
 abbrev pub NoBit : List ℕ → ℕ → Type 0
 NoBit table place = (getD table place 0 ≡ 0 → ⊥) × (getD table place 0 ≡ 1 → ⊥)
-
--- it is on the diagonal and not 0
-abbrev pub OnDiagonal : List ℕ → ℕ → ℕ → Type 0
-OnDiagonal table n place = (place / n ≡ place % n) × (getD table place 0 ≡ 0 → ⊥)
 
 -- it differs from its mirror cell
 abbrev pub Unlike : List ℕ → ℕ → ℕ → Type 0
@@ -30,18 +26,16 @@ Unlike table n place = getD table place 0 ≡ getD table (place % n * n + place 
 abbrev pub kinds : List ℕ → ℕ → ℕ → Conditions
 kinds table n place =
     (3, NoBit table place)
-    ∷ (12, OnDiagonal table n place)
     ∷ (13, Unlike table n place)
     ∷ []
 
 -- these numbers tell of a cell
 abbrev pub ofCell : ℕ → Bool
-ofCell c = eqb c 3 || eqb c 12 || eqb c 13
+ofCell c = eqb c 3 || eqb c 13
 
 -- a cell at fault is of one of the kinds
 pub data Fault (table : List ℕ) (n place : ℕ) : Type 0 where
   no-bit : NoBit table place → Fault table n place
-  diagonal : OnDiagonal table n place → Fault table n place
   mirror : Unlike table n place → Fault table n place
 
 -- the first such cell in row order
@@ -61,15 +55,14 @@ pub record FirstIs (table : List ℕ) (n c place : ℕ) : Type 0 where
 abbrev pub sizeConditions : ℕ → Conditions
 sizeConditions n = (1, (n < 2) ⊎ (mostRadios < n)) ∷ []
 
--- 3, 12 and 13: the table's cells
+-- 3 and 13: the table's cells
 abbrev pub cellConditions : List ℕ → ℕ → Conditions
 cellConditions table n =
     (3, (place : ℕ) × FirstIs table n 3 place)
-    ∷ (12, (place : ℕ) × FirstIs table n 12 place)
     ∷ (13, (place : ℕ) × FirstIs table n 13 place)
     ∷ []
 
--- 1 to 4, 12 and 13: a map of n radios
+-- 1 to 4 and 13: a map of n radios
 abbrev pub mapConditions : List ℕ → ℕ → Conditions
 mapConditions table n =
     sizeConditions n

@@ -1,5 +1,5 @@
--- "Refusals by number, in this order" of document 01, as document 02 amends them: 1 to 8, 12 and 13 with their places.
-use mathlib.Core.Bool.{Bool, true, false, not, _&&_, _||_, cond}
+-- "Refusals by number, in this order" of document 01, as document 02 amends them: 1 to 8 and 13 with their places.
+use mathlib.Core.Bool.{Bool, true, false, not, _||_, cond}
 use mathlib.Core.List.{List}
 use Prim.Native.Nat.{ℕ, _+_, _-_, _*_, _/_, _%_}
 use lib.Dec.{eqb, ltb}
@@ -9,9 +9,9 @@ use Rattle.site.specs.Limits.{mostRadios, mostLinks, mostPaths}
 use Rattle.site.specs.Map.{Site, links, A}
 use Rattle.log.specs.Bytes.{messageBytes}
 use Rattle.refusals.specs.declared.Finding.{Finding}
-use Rattle.refusals.specs.declared.Finding.the-variants.{Sound, Value, Diagonal, Mirror}
+use Rattle.refusals.specs.declared.Finding.the-variants.{Sound, Value, Mirror}
 use Rattle.refusals.specs.declared.Verdict.{Verdict}
-use Rattle.refusals.specs.declared.Verdict.the-variants.{Accepted, Radios, TableLength, CellValue, CellDiagonal, CellMirror, Links, Ends, Wanted, Log, Lists, Records, PathList}
+use Rattle.refusals.specs.declared.Verdict.the-variants.{Accepted, Radios, TableLength, CellValue, CellMirror, Links, Ends, Wanted, Log, Lists, Records, PathList}
 
 -- what a caller hands over: the map and its ends, the number of paths wanted, and the lengths of the three lent buffers
 pub record Call : Type 0 where
@@ -24,23 +24,19 @@ pub record Call : Type 0 where
 abbrev pub callOf : ℕ → List ℕ → ℕ → ℕ → ℕ → ℕ → ℕ → ℕ → Call
 callOf n table S T k log paths cut = record { site = record { n = n; table = table; S = S; T = T }; k = k; logLength = log; pathsLength = paths; cutLength = cut }
 
--- ---- 3, 12 and 13: the table's cells
+-- ---- 3 and 13: the table's cells
 
--- the cell of row i and column j, at this place, is judged by three kinds of fault in this order: it is not 0 or 1, it is on the diagonal and not 0, it differs from its mirror cell
-unfoldable pub cellFinding : ℕ → ℕ → ℕ → ℕ → ℕ → Finding
-cellFinding place i j cell mirror =
-    cond (ltb 1 cell) (Value place)
-    (cond (eqb i j && not (eqb cell 0)) (Diagonal place)
-    (cond (not (eqb cell mirror)) (Mirror place) Sound))
+-- the cell at this place is judged by two kinds of fault in this order: it is not 0 or 1, it differs from its mirror cell
+unfoldable pub cellFinding : ℕ → ℕ → ℕ → Finding
+cellFinding place cell mirror = cond (ltb 1 cell) (Value place) (cond (not (eqb cell mirror)) (Mirror place) Sound)
 
 -- the cell at a place of the table; places are counted from 0 in row order
 unfoldable pub findingAt : List ℕ → ℕ → ℕ → Finding
-findingAt table n place = cellFinding place (place / n) (place % n) (getD table place 0) (getD table (place % n * n + place / n) 0)
+findingAt table n place = cellFinding place (getD table place 0) (getD table (place % n * n + place / n) 0)
 
 abbrev pub isBad : Finding → Bool
 isBad Sound = false
 isBad (Value place) = true
-isBad (Diagonal place) = true
 isBad (Mirror place) = true
 
 abbrev pub badCell : List ℕ → ℕ → ℕ → Bool
@@ -76,7 +72,6 @@ numbered Accepted = (0, 0)
 numbered Radios = (1, 0)
 numbered TableLength = (2, 0)
 numbered (CellValue place) = (3, place)
-numbered (CellDiagonal place) = (12, place)
 numbered (CellMirror place) = (13, place)
 numbered Links = (4, 0)
 numbered Ends = (5, 0)
@@ -106,7 +101,6 @@ refuse test v = cond test v Accepted
 abbrev pub passed : Finding → Verdict
 passed Sound = Accepted
 passed (Value place) = CellValue place
-passed (Diagonal place) = CellDiagonal place
 passed (Mirror place) = CellMirror place
 
 infixl 25 _orElse_
@@ -128,7 +122,7 @@ noSize n = tooFew n || tooMany n
 abbrev pub sizeVerdict : ℕ → Verdict
 sizeVerdict n = refuse (noSize n) Radios
 
--- 1 to 4, 12 and 13: a map of n radios
+-- 1 to 4 and 13: a map of n radios
 unfoldable pub mapVerdict : List ℕ → ℕ → Verdict
 mapVerdict table n =
     sizeVerdict n

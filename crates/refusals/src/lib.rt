@@ -6,11 +6,10 @@ ghost use Rattle.refusals.specs.Refusals.{isBad, number, placeOf, passed
 const FEWEST_RADIOS: usize = 2;
 
 // What the check of the table finds: no fault, or what is wrong with the first bad cell in row order, and its place. It is not
-// 0 or 1, it is on the diagonal and not 0, or it differs from its mirror cell.
+// 0 or 1, or it differs from its mirror cell.
 pub enum Finding {
     Sound,
     Value(usize),
-    Diagonal(usize),
     Mirror(usize),
 }
 
@@ -20,7 +19,6 @@ pub enum Verdict {
     Radios,
     TableLength,
     CellValue(usize),
-    CellDiagonal(usize),
     CellMirror(usize),
     Links,
     Ends,
@@ -40,7 +38,6 @@ pub fn number_of(verdict: Verdict) -> usize
         Verdict::Radios => 1,
         Verdict::TableLength => 2,
         Verdict::CellValue(_) => 3,
-        Verdict::CellDiagonal(_) => 12,
         Verdict::CellMirror(_) => 13,
         Verdict::Links => 4,
         Verdict::Ends => 5,
@@ -61,7 +58,6 @@ pub fn place_of(verdict: Verdict) -> usize
         Verdict::Radios => 0,
         Verdict::TableLength => 0,
         Verdict::CellValue(place) => place,
-        Verdict::CellDiagonal(place) => place,
         Verdict::CellMirror(place) => place,
         Verdict::Links => 0,
         Verdict::Ends => 0,
@@ -80,7 +76,6 @@ pub fn is_bad(finding: Finding) -> bool
     match finding {
         Finding::Sound => false,
         Finding::Value(_) => true,
-        Finding::Diagonal(_) => true,
         Finding::Mirror(_) => true,
     }
 }
@@ -92,7 +87,6 @@ pub fn passed_on(finding: Finding) -> Verdict
     match finding {
         Finding::Sound => Verdict::Accepted,
         Finding::Value(place) => Verdict::CellValue(place),
-        Finding::Diagonal(place) => Verdict::CellDiagonal(place),
         Finding::Mirror(place) => Verdict::CellMirror(place),
     }
 }

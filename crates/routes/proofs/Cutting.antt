@@ -11,8 +11,8 @@ use Rattle.basics.specs.Lists.{InOrder, among, Different, All, AnyTwo}
 use Rattle.basics.proofs.Bools.{clash, not-true→false}
 use Rattle.basics.proofs.Lists.{_⊆_, among-nil, among-here, among-there, among-cases, among-map}
 use Rattle.site.specs.Map.{Site, inHalf, outHalf, radioOf, isOut, step}
-use Rattle.site.specs.Paths.{LeadsToT, Path, Disjoint, CutItem, Meets, Cut}
-use Rattle.site.proofs.Steps.{Step, inside, over, step-of, inside-step, over-step, linked-says, may-pass, in-is-not-out, out-is-out, radio-of-in, radio-of-out}
+use Rattle.site.specs.Paths.{LeadsToT, InnerPass, Path, Disjoint, CutItem, Meets, Cut}
+use Rattle.site.proofs.Steps.{Step, inside, over, step-of, inside-step, over-step, linked-says, in-is-not-out, out-is-out, radio-of-in, radio-of-out}
 use Rattle.site.proofs.Valid.{Valid}
 use Rattle.tokens.specs.Run.{atLink, cutItem, itemOf, cutOf}
 use Rattle.menger.proofs.Network.{Marks, Shut}
@@ -55,12 +55,12 @@ module _ {site : Site} (valid : Valid site) {m : Marks} {R : ℕ → Bool} (shut
     meets : Meets site item p
 
   -- radio u of the path p, its out half in R, and the radios after it
-  leave : (p : List ℕ) (u : ℕ) (rest : List ℕ) → LeadsToT site u rest → R (outHalf u) ≡ true → u < site .n → (u ≡ site .T → ⊥) → among u p ≡ true → rest ⊆ p → ((x : ℕ) → among x rest ≡ true → x ≡ site .S → ⊥)
+  leave : (p : List ℕ) (u : ℕ) (rest : List ℕ) → LeadsToT site u rest → R (outHalf u) ≡ true → u < site .n → (u ≡ site .T → ⊥) → among u p ≡ true → rest ⊆ p → InnerPass site p → ((x : ℕ) → among x rest ≡ true → x ≡ site .S → ⊥)
       → (u ≡ site .S → (r : List ℕ) → rest ≡ site .T ∷ r → p ≡ site .S ∷ site .T ∷ []) → LeavesAt p (cutItem site R u rest)
   unfolding cutItem
-  leave p u [] w i below not-T on after no-S direct = absurd (not-T w)
-  leave p u (v ∷ rest) w i below not-T on after no-S direct =
-      go (R (inHalf v)) refl (R (outHalf v)) refl (λ i′ not-T′. leave p v rest (w .1) i′ v-below not-T′ v-on (λ x h. after x (among-there x v rest h)) (λ x h. no-S x (among-there x v rest h)) (λ e. absurd (v-not-S e)))
+  leave p u [] w i below not-T on after inner no-S direct = absurd (not-T w)
+  leave p u (v ∷ rest) w i below not-T on after inner no-S direct =
+      go (R (inHalf v)) refl (R (outHalf v)) refl (λ i′ not-T′. leave p v rest (w .1) i′ v-below not-T′ v-on (λ x h. after x (among-there x v rest h)) inner (λ x h. no-S x (among-there x v rest h)) (λ e. absurd (v-not-S e)))
     where
       v-below : v < site .n
       v-below = linked-says site u v (w .0) .to-below
@@ -86,14 +86,14 @@ module _ {site : Site} (valid : Valid site) {m : Marks} {R : ℕ → Bool} (shut
           record { from = outHalf u; to = inHalf v; over = over-step site u v (w .0) not-T v-not-S; in-R = i; not-in-R = e; named = sym (item-over site u v); sound = item .0; meets = item .1 }
       go true e false f ih =
           let v-not-T : v ≡ site .T → ⊥ = λ q. clash (rw q at e) (shut .goal-out) in
-          record { from = inHalf v; to = outHalf v; over = inside-step site v (may-pass site v (record { below = v-below; not-S = v-not-S; not-T = v-not-T })); in-R = e; not-in-R = f; named = sym (item-inside site v); sound = inl (v-below, v-not-S, v-not-T); meets = inl (v-below, v-on) }
+          record { from = inHalf v; to = outHalf v; over = inside-step site v (inner v v-on v-not-S v-not-T); in-R = e; not-in-R = f; named = sym (item-inside site v); sound = inl (v-below, v-not-S, v-not-T); meets = inl (v-below, v-on) }
       go true e true f ih = ih f (λ (q : v ≡ site .T). clash (rw q at e) (shut .goal-out))
 
   -- a path of the map leaves R at its item
   path-leaves : (p : List ℕ) → Path site p → LeavesAt p (itemOf site R p)
   unfolding itemOf
   path-leaves p path =
-      rw (path .from-S) (leave (site .S ∷ rest) (site .S) rest (path .to-T) (shut .source-in) (valid .S-below) (valid .ends-differ) (among-here (site .S) rest) (λ x h. among-there x (site .S) rest h)
+      rw (path .from-S) (leave (site .S ∷ rest) (site .S) rest (path .to-T) (shut .source-in) (valid .S-below) (valid .ends-differ) (among-here (site .S) rest) (λ x h. among-there x (site .S) rest h) (λ x h. path .inner x (rw (path .from-S) h))
       (λ x h e. clash (rw e at h) (once .0)) (λ e r f. rw f (ap (λ (end : List ℕ). site .S ∷ site .T ∷ end) (last r f))))
     where
       rest : List ℕ

@@ -9,7 +9,7 @@ use native.Mathlib.Decide.{ℕ-discrete}
 use Rattle.basics.specs.Lists.{among, Different}
 use Rattle.basics.proofs.Bools.{clash, not-true→false}
 use Rattle.basics.proofs.Lists.{among-nil, among-here, among-there, among-cases, among-one}
-use Rattle.site.specs.Map.{Site, inHalf, outHalf, radioOf, isOut, step}
+use Rattle.site.specs.Map.{Site, inHalf, outHalf, radioOf, isOut, passes, step}
 use Rattle.site.specs.Paths.{LeadsToT, Path, Disjoint}
 use Rattle.site.proofs.Steps.{Step, inside, over, step-of, in-is-not-out, out-is-out, radio-of-in, radio-of-out}
 use Rattle.menger.proofs.Network.{Marks}
@@ -105,6 +105,19 @@ module _ (site : Site) (m : Marks) (on : (a b : ℕ) → m a b ≡ true → step
       go (inl e) ih = never (step-of site y x (on y x (back .0))) e
       go (inr e) ih = ih e
 
+  -- a trail goes on from an in half only inside a radio that passes
+  passes-on : (h : ℕ) (trail : List ℕ) → Back m (outHalf (site .S)) (h ∷ trail) → (w : ℕ) → among (inHalf w) trail ≡ true → passes site w ≡ true
+  passes-on h [] back w k = absurd (among-nil (inHalf w) k)
+  passes-on h (g ∷ trail) back w k = go (among-cases (inHalf w) g trail k) (passes-on g trail (back .1) w)
+    where
+      by : Step site g h → inHalf w ≡ g → passes site w ≡ true
+      by (inside v x y p) e = let same : w ≡ v = omega arith in rw same p
+      by (over u v x y l nt ns) e = absurd (omega arith)
+
+      go : (inHalf w ≡ g) ⊎ (among (inHalf w) trail ≡ true) → (among (inHalf w) trail ≡ true → passes site w ≡ true) → passes site w ≡ true
+      go (inl e) ih = by (step-of site g h (on g h (back .0))) e
+      go (inr e) ih = ih e
+
   -- the radios of a whole trail are a path
   pub trail-path : (z : ℕ) (trail : List ℕ) → Arrived (networkOf site) m z trail → Path site (site .S ∷ radiosOf trail [])
   trail-path z trail whole = rw (whole .shape) (record {
@@ -112,10 +125,23 @@ module _ (site : Site) (m : Marks) (on : (a b : ℕ) → m a b ≡ true → step
     from-S = refl;
     to-T = leads (inHalf (site .T)) (whole .before ∷ whole .rest) [] (whole .back) (radio-of-in (site .T));
     different = (not-true→false _ (λ h. never (radios-among (site .S) halves [] h)), radios-different halves [] (whole .once) tt (λ w h. absurd (among-nil w h)));
+    inner = λ v h not-S not-T. between v not-S not-T (among-cases v (site .S) (radiosOf halves []) h);
   })
     where
       halves : List ℕ
       halves = inHalf (site .T) ∷ whole .before ∷ whole .rest
+
+      between : (v : ℕ) → (v ≡ site .S → ⊥) → (v ≡ site .T → ⊥) → (v ≡ site .S) ⊎ (among v (radiosOf halves []) ≡ true) → passes site v ≡ true
+      between v not-S not-T (inl e) = absurd (not-S e)
+      between v not-S not-T (inr h) = on-trail (radios-among v halves [] h)
+        where
+          later : (inHalf v ≡ inHalf (site .T)) ⊎ (among (inHalf v) (whole .before ∷ whole .rest) ≡ true) → passes site v ≡ true
+          later (inl e) = absurd (not-T (omega arith))
+          later (inr k) = passes-on (inHalf (site .T)) (whole .before ∷ whole .rest) (whole .back) v k
+
+          on-trail : (among v [] ≡ true) ⊎ (among (inHalf v) halves ≡ true) → passes site v ≡ true
+          on-trail (inl e) = absurd (among-nil v e)
+          on-trail (inr k) = later (among-cases (inHalf v) (inHalf (site .T)) (whole .before ∷ whole .rest) k)
 
       never : (among (site .S) [] ≡ true) ⊎ (among (inHalf (site .S)) halves ≡ true) → ⊥
       never (inl e) = among-nil (site .S) e

@@ -10,7 +10,7 @@ use Rattle.site.specs.Map.{Site, outHalf, step}
 use Rattle.tokens.specs.Rules.{Plan, Marks, Entered, Notes, State, searching, waits, nobody, unmarked, start}
 use Rattle.tokens.specs.Run.{runFrom}
 use Rattle.openings.specs.Rows.{Open}
-use Rattle.radios.specs.Links.{RowsOfLinks}
+use Rattle.radios.specs.Links.{RowsOfLinks, Passing}
 use Rattle.openings.proofs.Turns.{marks-told}
 use Rattle.openings.proofs.Order.{untried-whole}
 use Rattle.machine.specs.declared.Task.{Task}
@@ -24,7 +24,7 @@ use Rattle.running.proofs.Sane.{sane-start}
 
 -- the rows are filled, and S's out half alone is entered
 module _ (task : Task) (links rows entered halves : List ℕ)
-    (filled : (site : Site) → site .n ≡ task .n → site .S ≡ task .s → site .T ≡ task .t → RowsOfLinks (site .table) (site .n) links → Open site unmarked rows) (only-S : enteredOf entered ≡ (λ x. eqb x (2 * task .s + 1))) where
+    (filled : (site : Site) → site .n ≡ task .n → site .S ≡ task .s → site .T ≡ task .t → Passing site (task .passing) → RowsOfLinks (site .table) (site .n) links → Open site unmarked rows) (only-S : enteredOf entered ≡ (λ x. eqb x (2 * task .s + 1))) where
   abbrev Begin : Machine
   Begin = beginningAt (2 * task .s + 1) rows 1 0
 
@@ -33,7 +33,7 @@ module _ (task : Task) (links rows entered halves : List ℕ)
 
   module _ (plan : Plan) (fresh : Fresh plan task links) where
     walks : Open (plan .site) unmarked rows
-    walks = filled (plan .site) (fresh .made .radios) (fresh .made .source) (fresh .made .sink) (fresh .made .linked)
+    walks = filled (plan .site) (fresh .made .radios) (fresh .made .source) (fresh .made .sink) (fresh .made .passing) (fresh .made .linked)
 
     no-marks : unmarked ≡ marksOf (plan .site) rows
     no-marks = marks-told (plan .site) unmarked rows (λ a b e. absurd (false≢true e)) walks

@@ -115,7 +115,7 @@ pub fn run(
 {
     let mut rows = buffers::no_sets();
     let mut halves = buffers::no_bytes();
-    openings::fill(task.n, task.s, task.t, links, &mut rows);
+    openings::fill(task.n, task.s, task.t, task.passing, links, &mut rows);
     let source = 2 * task.s + 1;
     halves::enter_only(entered, source);
     let begin = machine::beginning(source, &rows, 1, 0);

@@ -1,4 +1,4 @@
--- The number of steps is the A that document 01, "The map", writes out. Assumes nothing.
+-- The number of steps is the A that document 01, "The map", writes out, less one for each handheld other than S and T. Assumes nothing.
 use mathlib.Core.Path.{_≡_, refl, sym, ap, _∙_}
 use mathlib.Core.List.{List}
 use mathlib.Core.Bool.{Bool, true, false, not, _&&_, and-true, and-false}
@@ -7,9 +7,9 @@ use native.Mathlib.Omega.{arith}
 use lib.Dec.{eqb, ltb}
 use borrow.Author.Tests.{eq-eqb, ne-eqb, lt-ltb, ltb-true, ltb-false}
 use Rattle.basics.specs.Counting.{oneIf, sum, count}
-use Rattle.basics.proofs.Counting.{sum-ext, sum-update, sum-add, sum-zero, sum-one, sum-swap, sum-pairs, sum-above-two, one-at-most, count-only}
+use Rattle.basics.proofs.Counting.{sum-ext, sum-update, sum-add, sum-zero, sum-one, sum-swap, sum-pairs, sum-above-two, some-counts, count-only}
 use Rattle.site.proofs.Steps.{step-inside, step-to-out, none-from-T, none-into-S, step-link}
-use Rattle.site.specs.Map.{Site, linked, degree, links, linkedOn, inHalf, outHalf, passes, step, A}
+use Rattle.site.specs.Map.{Site, linked, degree, links, handheld, linkedOn, inHalf, outHalf, passes, step, A}
 
 -- the table is symmetric: u is linked to v if v is linked to u
 abbrev pub Even : List ℕ → ℕ → Type 0
@@ -65,13 +65,19 @@ module _ (site : Site) where
 
 -- ---- the formula
 
+-- a handheld other than S and T
+abbrev pub innerHandheld : Site → ℕ → Bool
+innerHandheld site v = not (eqb v (site .S)) && not (eqb v (site .T)) && handheld (site .table) (site .n) v
+
 module _ (site : Site) (S-in : site .S < site .n) (T-in : site .T < site .n) (differ : site .S ≡ site .T → ⊥) (even : Even (site .table) (site .n)) where
-  -- every radio but S and T has a step inside
-  steps-inside : count (passes site) (site .n) + 2 ≡ site .n
-  unfolding passes
-  steps-inside = omega (
+  abbrev between : ℕ → Bool
+  between v = not (eqb v (site .S)) && not (eqb v (site .T))
+
+  -- all radios but two are neither S nor T
+  two-ends : count between (site .n) + 2 ≡ site .n
+  two-ends = omega (
     arith,
-    sum-update inner other-than-S (site .T) (site .n) T-in (λ v p ne. rw (lt-ltb v (site .n) p, ne-eqb v (site .T) ne, and-true)),
+    sum-update inner other-than-S (site .T) (site .n) T-in (λ v p ne. rw (ne-eqb v (site .T) ne, and-true)),
     inner-T,
     ap oneIf (ap not (ne-eqb (site .T) (site .S) (λ e. differ (sym e)))),
     sum-update other-than-S (λ v. 1) (site .S) (site .n) S-in (λ v p ne. rw (ne-eqb v (site .S) ne)),
@@ -80,13 +86,30 @@ module _ (site : Site) (S-in : site .S < site .n) (T-in : site .T < site .n) (di
   )
     where
       inner : ℕ → ℕ
-      inner v = oneIf (passes site v)
+      inner v = oneIf (between v)
 
       other-than-S : ℕ → ℕ
       other-than-S v = oneIf (not (eqb v (site .S)))
 
       inner-T : inner (site .T) ≡ 0
       inner-T = rw (eq-eqb (site .T) (site .T) refl, and-false)
+
+  -- each of them has a step inside, or is a handheld
+  pub steps-inside : count (passes site) (site .n) + count (innerHandheld site) (site .n) + 2 ≡ site .n
+  unfolding passes
+  steps-inside = omega (
+    arith,
+    two-ends,
+    sum-add (λ v. oneIf (passes site v)) (λ v. oneIf (innerHandheld site v)) (site .n),
+    sum-ext (λ v. oneIf (passes site v) + oneIf (innerHandheld site v)) (λ v. oneIf (between v)) (site .n)
+        (λ v p. rw (lt-ltb v (site .n) p) (either (not (eqb v (site .S))) (not (eqb v (site .T))) (handheld (site .table) (site .n) v))),
+  )
+    where
+      either : (a b h : Bool) → oneIf (true && a && b && not h) + oneIf (a && b && h) ≡ oneIf (a && b)
+      either true true true = refl
+      either true true false = refl
+      either true false h = refl
+      either false b h = refl
 
   -- each link has a step each way, but for those from T and those into S
   steps-over : sum (over site) (site .n) + degree (site .table) (site .n) (site .S) + degree (site .table) (site .n) (site .T) ≡ sum (degree (site .table) (site .n)) (site .n) + oneIf (linkedOn site (site .S) (site .T))
@@ -109,15 +132,14 @@ module _ (site : Site) (S-in : site .S < site .n) (T-in : site .T < site .n) (di
         ap oneIf (none-into-S site u),
       )
 
-  -- document 01's formula with nothing taken away
-  pub steps-and-degrees : A site + degree (site .table) (site .n) (site .S) + degree (site .table) (site .n) (site .T) + 2 ≡ 2 * links (site .table) (site .n) + oneIf (linkedOn site (site .S) (site .T)) + site .n
+  -- the formula with nothing taken away
+  pub steps-and-degrees : A site + degree (site .table) (site .n) (site .S) + degree (site .table) (site .n) (site .T) ≡ 2 * links (site .table) (site .n) + oneIf (linkedOn site (site .S) (site .T)) + count (passes site) (site .n)
   unfolding A
   steps-and-degrees = omega (
     arith,
     sum-pairs (λ a. count (step site a) (2 * site .n)) (site .n),
     sum-ext (λ v. count (step site (inHalf v)) (2 * site .n) + count (step site (outHalf v)) (2 * site .n)) (λ v. oneIf (passes site v) + over site v) (site .n) (λ v p. omega (arith, row-in site v p, row-out site v)),
     sum-add (λ v. oneIf (passes site v)) (over site) (site .n),
-    steps-inside,
     steps-over,
     degrees-twice-links (site .table) (site .n) even,
   )
@@ -126,10 +148,14 @@ module _ (site : Site) (S-in : site .S < site .n) (T-in : site .T < site .n) (di
   pub two-degrees : degree (site .table) (site .n) (site .S) + degree (site .table) (site .n) (site .T) ≤ 2 * links (site .table) (site .n)
   two-degrees = omega (arith, sum-above-two (degree (site .table) (site .n)) (site .S) (site .T) (site .n) S-in T-in differ, degrees-twice-links (site .table) (site .n) even)
 
-  -- A = 2m − deg S − deg T + (1 if S and T are linked, else 0) + n − 2
-  pub formula : A site ≡ 2 * links (site .table) (site .n) - degree (site .table) (site .n) (site .S) - degree (site .table) (site .n) (site .T) + oneIf (linkedOn site (site .S) (site .T)) + site .n - 2
-  formula = omega (arith, steps-and-degrees, two-degrees)
+  -- A = 2m − deg S − deg T + (1 if S and T are linked, else 0) + n − 2, less one for each handheld other than S and T
+  pub formula : A site ≡ 2 * links (site .table) (site .n) - degree (site .table) (site .n) (site .S) - degree (site .table) (site .n) (site .T) + oneIf (linkedOn site (site .S) (site .T)) + site .n - 2 - count (innerHandheld site) (site .n)
+  formula = omega (arith, steps-and-degrees, steps-inside, two-degrees)
 
-  -- there are at most 2m + n steps
-  pub few-steps : A site ≤ 2 * links (site .table) (site .n) + site .n
-  few-steps = omega (arith, steps-and-degrees, one-at-most (linkedOn site (site .S) (site .T)))
+  -- there are at most 2m + n − 2 steps
+  pub few-steps : A site + 2 ≤ 2 * links (site .table) (site .n) + site .n
+  few-steps = omega (arith, steps-and-degrees, steps-inside, direct (linkedOn site (site .S) (site .T)) refl)
+    where
+      direct : (b : Bool) → linkedOn site (site .S) (site .T) ≡ b → oneIf b ≤ degree (site .table) (site .n) (site .S)
+      direct true e = omega (arith, some-counts (linkedOn site (site .S)) (site .n) (site .T) T-in e)
+      direct false e = omega arith

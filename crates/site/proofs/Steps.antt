@@ -2,12 +2,12 @@
 use mathlib.Core.Path.{_≡_, refl, _∙_}
 use mathlib.Core.Bool.{true, false, not, _&&_, and-true, and-false, or-false}
 use mathlib.Core.Logic.{_⊎_, inl, inr}
-use Prim.Native.Nat.{ℕ, _+_, _*_, _%_, _<_}
+use Prim.Native.Nat.{ℕ, _+_, _*_, _%_, _≤_, _<_}
 use native.Mathlib.Omega.{arith}
 use lib.Dec.{eqb, ltb}
-use borrow.Author.Tests.{eqb-true, eqb-false, eq-eqb, ne-eqb, lt-ltb, ltb-true, not-true}
+use borrow.Author.Tests.{eqb-true, eqb-false, eq-eqb, ne-eqb, lt-ltb, le-ltb, ltb-true, not-true}
 use Rattle.basics.proofs.Bools.{or-cases, and-left, and-right}
-use Rattle.site.specs.Map.{Site, linked, linkedOn, inHalf, outHalf, radioOf, isOut, exists, passes, insideStep, linkStep, step}
+use Rattle.site.specs.Map.{Site, linked, handheld, linkedOn, inHalf, outHalf, radioOf, isOut, exists, passes, insideStep, linkStep, step}
 
 -- ---- the tests, half by half
 
@@ -82,16 +82,22 @@ pub record Passes (site : Site) (v : ℕ) : Type 0 where
   pub below : v < site .n
   pub not-S : v ≡ site .S → ⊥
   pub not-T : v ≡ site .T → ⊥
+  pub ordinary : handheld (site .table) (site .n) v ≡ false
 
 pub passes-says : (site : Site) (v : ℕ) → passes site v ≡ true → Passes site v
 unfolding passes
 passes-says site v e =
-    let parts : (ltb v (site .n) ≡ true) × (not (eqb v (site .S)) ≡ true) × (not (eqb v (site .T)) ≡ true) = search (and-left, and-right) in
-    record { below = ltb-true _ _ (parts .0); not-S = eqb-false _ _ (not-true _ (parts .1)); not-T = eqb-false _ _ (not-true _ (parts .2)) }
+    let parts : (ltb v (site .n) ≡ true) × (not (eqb v (site .S)) ≡ true) × (not (eqb v (site .T)) ≡ true) × (not (handheld (site .table) (site .n) v) ≡ true) = search (and-left, and-right) in
+    record { below = ltb-true _ _ (parts .0); not-S = eqb-false _ _ (not-true _ (parts .1)); not-T = eqb-false _ _ (not-true _ (parts .2)); ordinary = not-true _ (parts .3) }
+
+-- no radio outside the map does
+pub passes-outside : (site : Site) (v : ℕ) → site .n ≤ v → passes site v ≡ false
+unfolding passes
+passes-outside site v l = rw (le-ltb v (site .n) l)
 
 pub may-pass : (site : Site) (v : ℕ) → Passes site v → passes site v ≡ true
 unfolding passes
-may-pass site v may = rw (lt-ltb v (site .n) (may .below), ne-eqb v (site .S) (may .not-S), ne-eqb v (site .T) (may .not-T))
+may-pass site v may = rw (lt-ltb v (site .n) (may .below), ne-eqb v (site .S) (may .not-S), ne-eqb v (site .T) (may .not-T), may .ordinary)
 
 -- a step leads inside a radio, or over a link
 pub data Step (site : Site) (a b : ℕ) : Type 0 where

@@ -15,7 +15,7 @@ pub record Site : Type 0 where
 
 -- ---- links
 
--- u and v are two radios of the map whose cell u·n+v is 1
+-- u and v are two radios of the map, not one, whose cell u·n+v is 1
 unfoldable pub linked : List ℕ → ℕ → ℕ → ℕ → Bool
 linked table n u v = ltb u n && ltb v n && not (eqb u v) && eqb (getD table (u * n + v) 0) 1
 
@@ -26,6 +26,10 @@ degree table n u = count (linked table n u) n
 -- m: the number of links, each counted at its lower radio
 unfoldable pub links : List ℕ → ℕ → ℕ
 links table n = sum (λ u. count (λ v. ltb u v && linked table n u v) n) n
+
+-- radio v's own cell is 1: it is a handheld, which does not pass on what it hears
+unfoldable pub handheld : List ℕ → ℕ → ℕ → Bool
+handheld table n v = eqb (getD table (v * n + v) 0) 1
 
 -- are radios u and v linked on this site?
 abbrev pub linkedOn : Site → ℕ → ℕ → Bool
@@ -52,9 +56,9 @@ exists site h = ltb (radioOf h) (site .n) && not (eqb h (inHalf (site .S))) && n
 
 -- ---- steps
 
--- every radio but S and T may stand inside a path
+-- every radio but S, T and the handhelds may stand inside a path
 unfoldable pub passes : Site → ℕ → Bool
-passes site v = ltb v (site .n) && not (eqb v (site .S)) && not (eqb v (site .T))
+passes site v = ltb v (site .n) && not (eqb v (site .S)) && not (eqb v (site .T)) && not (handheld (site .table) (site .n) v)
 
 -- from the in half to the out half of a radio that may stand inside a path
 unfoldable pub insideStep : Site → ℕ → ℕ → Bool

@@ -7,19 +7,24 @@ use Prim.Native.Nat.{ℕ, _<_, _≤_}
 use lib.ListN.{length}
 use Rattle.basics.specs.Lists.{among, Different, All, AnyTwo}
 use Rattle.site.specs.Limits.{directLink}
-use Rattle.site.specs.Map.{Site, linkedOn}
+use Rattle.site.specs.Map.{Site, linkedOn, passes}
 
 -- from radio u along the list to T, each linked to the next
 abbrev pub LeadsToT : Site → ℕ → List ℕ → Type 0
 LeadsToT site u [] = u ≡ site .T
 LeadsToT site u (v ∷ rest) = (linkedOn site u v ≡ true) × LeadsToT site v rest
 
--- a path: a list of different radios from S to T, each linked to the next
+-- all radios of the list but S and T may stand inside a path
+abbrev pub InnerPass : Site → List ℕ → Type 0
+InnerPass site p = (v : ℕ) → among v p ≡ true → (v ≡ site .S → ⊥) → (v ≡ site .T → ⊥) → passes site v ≡ true
+
+-- a path: a list of different radios from S to T, each linked to the next, of which those between pass on what they hear
 pub record Path (site : Site) (p : List ℕ) : Type 0 where
   pub rest : List ℕ
   pub from-S : p ≡ site .S ∷ rest
   pub to-T : LeadsToT site (site .S) rest
   pub different : Different p
+  pub inner : InnerPass site p
 
 -- two lists of radios from S to T are disjoint if they are different and share no radio but S and T
 pub record Disjoint (S T : ℕ) (p q : List ℕ) : Type 0 where

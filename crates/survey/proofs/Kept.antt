@@ -6,9 +6,9 @@ use lib.ListN.{length, replicate}
 use Rattle.refusals.specs.Refusals.{Call, callOf, verdict, number, placeOf}
 use Rattle.refusals.proofs.Accepted.{Room, accepted-valid, accepted-room}
 use Rattle.site.proofs.Valid.{Valid}
-use Rattle.refusals.specs.declared.Verdict.{Verdict}
 use Rattle.outcome.specs.declared.Outcome.{Outcome}
 use Rattle.outcome.specs.Leaves.{outcome}
+use Rattle.checks.specs.declared.CallAnswer.{CallAnswer}
 use Rattle.checks.specs.Checked.{Judged}
 use Rattle.demands.specs.Demand1.{NothingLeft}
 use Rattle.demands.specs.Promise.{Promise}
@@ -16,20 +16,20 @@ use Rattle.demands.proofs.First.{demand-1}
 use Rattle.demands.proofs.Demands.{demand-2, demand-3}
 use Rattle.survey.specs.Parts.{Given, LeftBehind}
 
-module _ (n : ℕ) (table : List ℕ) (s t k : ℕ) (log paths cut rows : List ℕ) {answer : Verdict} (judged : Judged (callOf n table s t k (length log) (length paths) (length cut)) rows answer) where
+module _ (n : ℕ) (table : List ℕ) (s t k : ℕ) (log paths cut rows : List ℕ) {answer : CallAnswer} (judged : Judged (callOf n table s t k (length log) (length paths) (length cut)) rows answer) where
   abbrev call : Call
   call = callOf n table s t k (length log) (length paths) (length cut)
 
   -- the number is the verdict's
-  told : outcome call .refusal ≡ number answer
+  told : outcome call .refusal ≡ number (answer .verdict)
   unfolding outcome
   told = ap number (sym (judged .told))
 
-  place-told : outcome call .place ≡ placeOf answer
+  place-told : outcome call .place ≡ placeOf (answer .verdict)
   unfolding outcome
   place-told = ap placeOf (sym (judged .told))
 
-  pub given : number answer ≡ 0 → Given (record { n = n; s = s; t = t; k = k }) rows log paths cut
+  pub given : number (answer .verdict) ≡ 0 → Given (record { n = n; s = s; t = t; k = k; passing = answer .passing }) rows log paths cut
   given accepted =
       record {
         call = call;
@@ -42,6 +42,7 @@ module _ (n : ℕ) (table : List ℕ) (s t k : ℕ) (log paths cut rows : List �
             sink = refl;
             wanted = refl;
             order = refl;
+            passing = judged .passing-are accepted;
             linked = judged .rows-are accepted;
           };
           none-kept = refl;
@@ -62,8 +63,8 @@ module _ (n : ℕ) (table : List ℕ) (s t k : ℕ) (log paths cut rows : List �
       room : Room call
       room = accepted-room call no-refusal
 
-  pub kept-accepted : {numbers : Outcome} {log′ paths′ cut′ : List ℕ} → number answer ≡ 0
-      → ((g : Given (record { n = n; s = s; t = t; k = k }) rows log paths cut) → LeftBehind (g .call) numbers log′ paths′ cut′) → Promise call numbers log′ paths′ cut′
+  pub kept-accepted : {numbers : Outcome} {log′ paths′ cut′ : List ℕ} → number (answer .verdict) ≡ 0
+      → ((g : Given (record { n = n; s = s; t = t; k = k; passing = answer .passing }) rows log paths cut) → LeftBehind (g .call) numbers log′ paths′ cut′) → Promise call numbers log′ paths′ cut′
   unfolding given
   kept-accepted {numbers} {log′} {paths′} {cut′} accepted leaves =
       record {
@@ -79,8 +80,8 @@ module _ (n : ℕ) (table : List ℕ) (s t k : ℕ) (log paths cut rows : List �
       left : LeftBehind call numbers log′ paths′ cut′
       left = leaves (given accepted)
 
-  pub kept-refused : {numbers : Outcome} {log′ paths′ cut′ : List ℕ} → (number answer ≡ 0 → ⊥)
-      → numbers ≡ record { refusal = number answer; place = placeOf answer; paths = 0; rounds = 0; messages = 0 }
+  pub kept-refused : {numbers : Outcome} {log′ paths′ cut′ : List ℕ} → (number (answer .verdict) ≡ 0 → ⊥)
+      → numbers ≡ record { refusal = number (answer .verdict); place = placeOf (answer .verdict); paths = 0; rounds = 0; messages = 0 }
       → log′ ≡ replicate (length log) 0 → paths′ ≡ replicate (length paths) 0 → cut′ ≡ replicate (length cut) 0 → Promise call numbers log′ paths′ cut′
   kept-refused {numbers} refused numbers-told log-zero paths-zero cut-zero =
       record {
@@ -96,5 +97,5 @@ module _ (n : ℕ) (table : List ℕ) (s t k : ℕ) (log paths cut rows : List �
       nothing : NothingLeft call
       nothing = demand-1 call .nothing-left (λ e. refused (sym told ∙ e))
 
-      same : _≡_ {A = Outcome} (record { refusal = number answer; place = placeOf answer; paths = 0; rounds = 0; messages = 0 }) (outcome call)
+      same : _≡_ {A = Outcome} (record { refusal = number (answer .verdict); place = placeOf (answer .verdict); paths = 0; rounds = 0; messages = 0 }) (outcome call)
       same = λ i. record { refusal = sym told i; place = sym place-told i; paths = sym (nothing .paths) i; rounds = sym (nothing .rounds) i; messages = sym (nothing .messages) i }

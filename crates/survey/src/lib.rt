@@ -102,7 +102,7 @@ pub extern "C" fn fog_survey(
     ensures { λ r. ⌜ Promise (callOf n (now (table .entry)) s t k (length (now (log .entry))) (length (now (paths .entry))) (length (now (cut .entry)))) r (now (log .exit)) (now (paths .exit)) (now (cut .exit)) ⌝ }
 {
     let mut links = buffers::no_radios();
-    let verdict = checks::judge(
+    let judged = checks::judge(
         n,
         table,
         s,
@@ -113,9 +113,16 @@ pub extern "C" fn fog_survey(
         cut.len(),
         &mut links,
     );
+    let verdict = judged.verdict;
     if refusals::number_of(verdict) != 0 {
         return refused(verdict, log, paths, cut);
     }
-    let task = Task { n, s, t, k };
+    let task = Task {
+        n,
+        s,
+        t,
+        k,
+        passing: judged.passing,
+    };
     accepted(task, &links, log, paths, cut)
 }

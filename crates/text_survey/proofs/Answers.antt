@@ -16,7 +16,7 @@ use Rattle.site.specs.Paths.{Meets}
 use Rattle.refusals.specs.Refusals.{Call, callOf, number, verdict}
 use Rattle.refusals.specs.Conditions.{ofCell}
 use Rattle.refusals.specs.declared.Verdict.{Verdict}
-use Rattle.refusals.specs.declared.Verdict.the-variants.{Accepted, Radios, TableLength, CellValue, CellDiagonal, CellMirror, Links, Ends, Wanted, Log, Lists, Records, PathList}
+use Rattle.refusals.specs.declared.Verdict.the-variants.{Accepted, Radios, TableLength, CellValue, CellMirror, Links, Ends, Wanted, Log, Lists, Records, PathList}
 use Rattle.refusals.proofs.Accepted.{accepted-room}
 use Rattle.outcome.specs.declared.Outcome.{Outcome}
 use Rattle.outcome.specs.Leaves.{pathsFound, cutFound, pathsLeft, cutLeft, outcome}
@@ -79,7 +79,6 @@ number-small Accepted = omega arith
 number-small Radios = omega arith
 number-small TableLength = omega arith
 number-small (CellValue place) = omega arith
-number-small (CellDiagonal place) = omega arith
 number-small (CellMirror place) = omega arith
 number-small Links = omega arith
 number-small Ends = omega arith

@@ -15,8 +15,8 @@ use Rattle.captures.specs.Text.{pieces}
 use Rattle.captures.specs.Capture.{headOf, lineOf, isHead, isRecord, rightShape, wrongLine}
 use Rattle.captures.specs.declared.Head.{Head}
 use Rattle.captures.specs.declared.Line.{Line}
-use Rattle.captures.specs.Reading.{endOf, part}
-use Rattle.captures.proofs.Pieces.{piecesFrom, pieces-from, pieces-past, next-piece, end-between}
+use Rattle.captures.specs.Reading.{endOf, part, piecesFrom}
+use Rattle.captures.proofs.Pieces.{pieces-from, pieces-past, next-piece, end-between}
 
 -- ---- one line
 

@@ -9,14 +9,15 @@ use native.Mathlib.Omega.{arith}
 use lib.Dec.{eqb}
 use lib.ListN.{length, getD, take, replicate, length-append, length-replicate, getD-replicate}
 use lib.Seq.{take-at}
-use borrow.Author.Tests.{ne-eqb, lt-ltb, le-ltb, not-true, not-false}
+use borrow.Author.Tests.{eq-eqb, ne-eqb, lt-ltb, le-ltb, not-true, not-false}
+use Rattle.basics.proofs.Bools.{clash}
 use Rattle.captures.specs.Words.{lineFeed}
 use Rattle.captures.specs.Capture.{lineOf, isRecord, linesOf, came, atFault, faultLine, withLine, tableWith, tableOf}
-use Rattle.captures.specs.Reading.{endOf, part}
+use Rattle.captures.specs.Reading.{endOf, part, piecesFrom}
 use Rattle.captures.specs.declared.Line.{Line}
-use Rattle.captures.specs.declared.Line.the-variants.{Link, NoRecord}
+use Rattle.captures.specs.declared.Line.the-variants.{Link, Hand, NoRecord}
 use Rattle.captures.proofs.Cells.{isCell, with-cell, with-long, cellOf, Ordered, own-in, own-cell, good-ordered}
-use Rattle.captures.proofs.Pieces.{piecesFrom, pieces-from, pieces-past, next-piece, end-between}
+use Rattle.captures.proofs.Pieces.{pieces-from, pieces-past, next-piece, end-between}
 use Rattle.texts.specs.Table.{faultIn, Added, linesFrom, LinesRead}
 
 -- ---- the cells
@@ -46,6 +47,11 @@ cells-more n table before new long ordered cells line is ord =
 -- so the table tells a line at fault
 fault-told : (n : ℕ) (table : List ℕ) (before : List Line) (line : Line) → Cells n table before → atFault n before line ≡ faultIn n table line
 fault-told n table before NoRecord cells = refl
+fault-told n table before (Hand v) cells = pick (decLt v n)
+  where
+    pick : Dec (v < n) → atFault n before (Hand v) ≡ faultIn n table (Hand v)
+    pick (yes p) = rw (cells (Hand v) refl p)
+    pick (no p) = rw (le-ltb v n (omega arith))
 fault-told n table before (Link u v) cells = pick (decLt u v) (decLt v n)
   where
     pick : Dec (u < v) → Dec (v < n) → atFault n before (Link u v) ≡ faultIn n table (Link u v)
@@ -55,19 +61,28 @@ fault-told n table before (Link u v) cells = pick (decLt u v) (decLt v n)
 
 -- ---- one line
 
-module _ (n : ℕ) (table : List ℕ) (u v : ℕ) where
-  pub fault-order : v ≤ u → faultIn n table (Link u v) ≡ true
-  fault-order p = rw (le-ltb u v p)
+module _ (n : ℕ) (table : List ℕ) where
+  pub fault-order : (u v : ℕ) → v ≤ u → faultIn n table (Link u v) ≡ true
+  fault-order u v p = rw (le-ltb u v p)
 
-  pub fault-above : n ≤ v → faultIn n table (Link u v) ≡ true
-  fault-above p = rw (le-ltb v n p, or-true)
+  pub fault-above : (u v : ℕ) → n ≤ v → faultIn n table (Link u v) ≡ true
+  fault-above u v p = rw (le-ltb v n p, or-true)
 
-  module _ (place : ℕ) (p : u < v) (q : v < n) (e : place ≡ u * n + v) where
-    pub fault-again : getD table place 0 ≡ 1 → faultIn n table (Link u v) ≡ true
-    fault-again h = simp (← e, h, or-true)
+  pub fault-hand : (v : ℕ) → n ≤ v → faultIn n table (Hand v) ≡ true
+  fault-hand v p = rw (le-ltb v n p)
 
-    pub fault-none : (getD table place 0 ≡ 1 → ⊥) → faultIn n table (Link u v) ≡ false
-    fault-none h = simp (← e, ne-eqb (getD table place 0) 1 h, lt-ltb u v p, lt-ltb v n q)
+  -- where its radios are in order the own cell tells
+  fault-cell : (line : Line) → isRecord line ≡ true → Ordered n line → faultIn n table line ≡ eqb (getD table (cellOf n line) 0) 1
+  fault-cell NoRecord is ord = clash is refl
+  fault-cell (Hand v) is ord = rw (lt-ltb v n ord)
+  fault-cell (Link u v) is ord = rw (lt-ltb u v (ord .0), lt-ltb v n (ord .1))
+
+  module _ (line : Line) (is : isRecord line ≡ true) (ord : Ordered n line) {place : ℕ} (e : place ≡ cellOf n line) where
+    pub fault-again : getD table place 0 ≡ 1 → faultIn n table line ≡ true
+    fault-again h = fault-cell line is ord ∙ rw (← e) (eq-eqb (getD table place 0) 1 h)
+
+    pub fault-none : (getD table place 0 ≡ 1 → ⊥) → faultIn n table line ≡ false
+    fault-none d = fault-cell line is ord ∙ rw (← e) (ne-eqb (getD table place 0) 1 d)
 
 pub added-not : {n : ℕ} {table : List ℕ} {line : Line} → faultIn n table line ≡ true → Added n table line table false
 added-not bad = record { told = rw bad; joined = refl }

@@ -9,11 +9,12 @@ use Rattle.captures.specs.Words.{lineFeed}
 use Rattle.captures.specs.Text.{pieces}
 use Rattle.captures.specs.Capture.{linesOf, faultLine, withLine, tableOf}
 use Rattle.captures.specs.declared.Line.{Line}
-use Rattle.captures.specs.declared.Line.the-variants.{Link, NoRecord}
+use Rattle.captures.specs.declared.Line.the-variants.{Link, Hand, NoRecord}
 
--- 11, with a cell that is 1 for a pair that came before
+-- 11, with a cell that is 1 for a link or a handheld that came before
 abbrev pub faultIn : ℕ → List ℕ → Line → Bool
 faultIn n table (Link u v) = not (ltb u v) || not (ltb v n) || eqb (getD table (u * n + v) 0) 1
+faultIn n table (Hand v) = not (ltb v n) || eqb (getD table (v * n + v) 0) 1
 faultIn n table NoRecord = false
 
 -- a good line is told to be good and joins the table; one at fault leaves it as it was

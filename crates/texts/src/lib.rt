@@ -6,6 +6,7 @@ ghost use Rattle.site.specs.Limits.{mostRadios};
 ghost use Rattle.captures.specs.Words.{lineFeed};
 ghost use Rattle.captures.specs.Text.{pieces};
 ghost use Rattle.captures.specs.Capture.{rightShape, wrongLine};
+ghost use Rattle.captures.specs.declared.Line.the-variants.{Link, Hand};
 ghost use Rattle.texts.specs.Table.{Added, LinesRead};
 use captures::Head;
 use captures::Line;
@@ -20,10 +21,11 @@ fn is_right(number: usize, line: &[u8]) -> bool
         }
         return true;
     }
-    if let Line::NoRecord = captures::line_of(line) {
-        return false;
+    match captures::line_of(line) {
+        Line::Link(_, _) => true,
+        Line::Hand(_) => true,
+        Line::NoRecord => false,
     }
-    true
 }
 
 // Refusal 9: the number of the first line of the wrong shape; 0 where there is none.
@@ -47,15 +49,12 @@ pub fn first_wrong(text: &[u8]) -> usize
     number
 }
 
-// A line joins the table and is told to be good; one at fault leaves the table as it was. A link between two radios came
-// before exactly if its cell is 1.
-fn add_line(n: usize, line: Line, table: &mut [u8]) -> bool
+// A link joins the table and is told to be good; one at fault leaves the table as it was. It came before exactly if its cell
+// is 1.
+fn add_link(n: usize, u: usize, v: usize, table: &mut [u8]) -> bool
     requires { ⌜ (n ≤ mostRadios) × (length (now table) ≡ n * n) ⌝ }
-    ensures { λ r. ⌜ Added n (now (table .entry)) line (now (table .exit)) r ⌝ }
+    ensures { λ r. ⌜ Added n (now (table .entry)) (Link u v) (now (table .exit)) r ⌝ }
 {
-    let Line::Link(u, v) = line else {
-        return true;
-    };
     if u >= v || v >= n {
         return false;
     }
@@ -67,6 +66,34 @@ fn add_line(n: usize, line: Line, table: &mut [u8]) -> bool
     table[cell] = 1;
     table[mirror] = 1;
     true
+}
+
+// The same for a handheld. No link fills a cell on the diagonal, so it was named before exactly if its own cell is 1.
+fn add_hand(n: usize, v: usize, table: &mut [u8]) -> bool
+    requires { ⌜ (n ≤ mostRadios) × (length (now table) ≡ n * n) ⌝ }
+    ensures { λ r. ⌜ Added n (now (table .entry)) (Hand v) (now (table .exit)) r ⌝ }
+{
+    if v >= n {
+        return false;
+    }
+    let own = site::place(n, v, v);
+    if table[own] == 1 {
+        return false;
+    }
+    table[own] = 1;
+    true
+}
+
+// What a line says joins the table.
+fn add_line(n: usize, line: Line, table: &mut [u8]) -> bool
+    requires { ⌜ (n ≤ mostRadios) × (length (now table) ≡ n * n) ⌝ }
+    ensures { λ r. ⌜ Added n (now (table .entry)) line (now (table .exit)) r ⌝ }
+{
+    match line {
+        Line::Link(u, v) => add_link(n, u, v, table),
+        Line::Hand(v) => add_hand(n, v, table),
+        Line::NoRecord => true,
+    }
 }
 
 // Refusal 11: the number of the first line at fault; 0 where there is none. The table is left with all lines, or with those

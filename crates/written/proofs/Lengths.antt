@@ -8,16 +8,16 @@ use native.Mathlib.Nat.{suc-mul}
 use native.Mathlib.Omega.{arith}
 use lib.Dec.{eqb, ltb}
 use lib.ListN.{length, getD, length-append}
-use borrow.Author.Tests.{lt-ltb, le-ltb, ne-eqb}
+use borrow.Author.Tests.{eq-eqb, ne-eqb, lt-ltb, le-ltb}
 use Rattle.basics.specs.Counting.{oneIf, sum, count}
 use Rattle.basics.specs.Lists.{All}
-use Rattle.basics.proofs.Counting.{sum-ext}
+use Rattle.basics.proofs.Counting.{sum-ext, sum-add, sum-one, sum-le, count-only}
 use Rattle.site.specs.Limits.{mostRadios, mostLinks}
-use Rattle.site.specs.Map.{linked, links}
+use Rattle.site.specs.Map.{linked, links, handheld}
 use Rattle.captures.specs.Text.{mostNumber}
 use Rattle.captures.specs.Capture.{isRecord}
 use Rattle.captures.specs.declared.Line.{Line}
-use Rattle.captures.specs.declared.Line.the-variants.{Link, NoRecord}
+use Rattle.captures.specs.declared.Line.the-variants.{Link, Hand, NoRecord}
 use Rattle.captures.proofs.Cells.{Ordered}
 use Rattle.sheet_lines.proofs.Numbers.{digits-below-100, digits-below-100000}
 use Rattle.text_survey.specs.Survey.{mostBytes}
@@ -59,25 +59,53 @@ unfolding sum
 sum-rows f zero n = let e : 0 * n ≡ 0 = omega arith in ap (sum f) e
 sum-rows f (suc m) n = ap (sum f) (suc-mul m n) ∙ sum-append f (m * n) n ∙ ap (λ (x : ℕ). sum (λ v. f (m * n + v)) n + x) (sum-rows f m n)
 
--- the cell of a row and a column says something exactly if these two are linked
-says-at : (n : ℕ) (table : List ℕ) (u v : ℕ) → u < n → v < n → saysAt n table (u * n + v) ≡ (ltb u v && linked table n u v)
-unfolding linked
-says-at n table u v p q = rw (row-of n u v q, column-of n u v q, lt-ltb u n p, lt-ltb v n q) (go (decLt u v) (eqb (getD table (u * n + v) 0) 1))
+-- the cell of row u and column v says something exactly if u is below v and they are linked, or if they are one radio and it is a handheld
+says-at : (n : ℕ) (table : List ℕ) (u v : ℕ) → u < n → v < n → oneIf (saysAt n table (u * n + v)) ≡ oneIf (ltb u v && linked table n u v) + oneIf (eqb v u && handheld table n u)
+unfolding linked handheld
+says-at n table u v p q = rw (row-of n u v q, column-of n u v q, lt-ltb u n p, lt-ltb v n q) (go (decLt u v) (decLt v u))
   where
-    go : Dec (u < v) → (one : Bool) → isRecord (cond one (oneSays u v) NoRecord) ≡ (ltb u v && (not (eqb u v) && one))
-    go (yes l) true = rw (lt-ltb u v l, ne-eqb u v (λ e. omega arith))
-    go (yes l) false = rw (lt-ltb u v l, ne-eqb u v (λ e. omega arith))
-    go (no l) true = rw (le-ltb u v (omega arith))
-    go (no l) false = rw (le-ltb u v (omega arith))
+    a-link : (one : Bool) → oneIf (isRecord (cond one (Link u v) NoRecord)) ≡ oneIf one + 0
+    a-link true = refl
+    a-link false = refl
 
-lines-number : (n : ℕ) (table : List ℕ) → length (linesIn n table) ≡ links table n
+    a-hand : (one : Bool) → oneIf (isRecord (cond one (Hand u) NoRecord)) ≡ 0 + oneIf one
+    a-hand true = refl
+    a-hand false = refl
+
+    nothing : (one : Bool) → oneIf (isRecord (cond one NoRecord NoRecord)) ≡ 0 + 0
+    nothing true = refl
+    nothing false = refl
+
+    go : Dec (u < v) → Dec (v < u) → oneIf (isRecord (cond (eqb (getD table (u * n + v) 0) 1) (oneSays u v) NoRecord))
+        ≡ oneIf (ltb u v && (not (eqb u v) && eqb (getD table (u * n + v) 0) 1)) + oneIf (eqb v u && eqb (getD table (u * n + u) 0) 1)
+    go (yes l) d = rw (lt-ltb u v l, ne-eqb u v (λ e. omega arith), ne-eqb v u (λ e. omega arith)) (a-link (eqb (getD table (u * n + v) 0) 1))
+    go (no l) (yes m) = rw (le-ltb u v (omega arith), ne-eqb u v (λ e. omega arith), ne-eqb v u (λ e. omega arith)) (nothing (eqb (getD table (u * n + v) 0) 1))
+    go (no l) (no m) = let one : v ≡ u = omega arith in rw (one, le-ltb u u (omega arith), eq-eqb u u refl) (a-hand (eqb (getD table (u * n + u) 0) 1))
+
+-- a line for each link and one for each handheld
+lines-number : (n : ℕ) (table : List ℕ) → length (linesIn n table) ≡ links table n + count (handheld table n) n
 unfolding links sum
 lines-number n table =
     let counted : length (linesIn n table) ≡ count (saysAt n table) (0 + n * n) = omega (arith, lines-counted n table 0 (n * n)) in
     let whole : 0 + n * n ≡ n * n = omega arith in
-    counted ∙ ap (count (saysAt n table)) whole ∙ sum-rows (λ place. oneIf (saysAt n table place)) n n
-    ∙ sum-ext (λ u. count (λ v. saysAt n table (u * n + v)) n) (λ u. count (λ v. ltb u v && linked table n u v) n) n
-    (λ u p. sum-ext (λ v. oneIf (saysAt n table (u * n + v))) (λ v. oneIf (ltb u v && linked table n u v)) n (λ v q. ap oneIf (says-at n table u v p q)))
+    counted ∙ ap (count (saysAt n table)) whole ∙ sum-rows (λ place. oneIf (saysAt n table place)) n n ∙ sum-ext _ (λ u. above u + oneIf (handheld table n u)) n row
+    ∙ sum-add above (λ u. oneIf (handheld table n u)) n
+  where
+    above : ℕ → ℕ
+    above u = count (λ v. ltb u v && linked table n u v) n
+
+    row : (u : ℕ) → u < n → count (λ v. saysAt n table (u * n + v)) n ≡ above u + oneIf (handheld table n u)
+    row u p =
+        sum-ext (λ v. oneIf (saysAt n table (u * n + v))) (λ v. oneIf (ltb u v && linked table n u v) + oneIf (eqb v u && handheld table n u)) n (λ v q. says-at n table u v p q)
+        ∙ sum-add (λ v. oneIf (ltb u v && linked table n u v)) (λ v. oneIf (eqb v u && handheld table n u)) n
+        ∙ ap (λ (x : ℕ). above u + x) (count-only (handheld table n u) u n p)
+
+few-handhelds : (n : ℕ) (table : List ℕ) → count (handheld table n) n ≤ n
+few-handhelds n table = omega (arith, sum-le (λ v. oneIf (handheld table n v)) (λ v. 1) n (λ v p. at-most (handheld table n v)), sum-one n)
+  where
+    at-most : (b : Bool) → oneIf b ≤ 1
+    at-most true = omega arith
+    at-most false = omega arith
 
 -- ---- the lines are short
 
@@ -93,9 +121,10 @@ net-length capture n S T k a b c d e =
       digits-below-100000 k (omega arith),
     ))
 
--- two radios below 64 have at most two digits each
+-- a radio below 64 has at most two digits
 line-length : (n : ℕ) (line : Line) → n ≤ mostRadios → Ordered n line → length (lineText line) ≤ 11
 line-length n NoRecord few ord = omega arith
+line-length n (Hand v) few ord = simp length-append (omega (arith, digits-below-100 v (omega (arith, ord))))
 line-length n (Link u v) few ord = simp length-append (omega (arith, digits-below-100 u (omega (arith, ord .0, ord .1)), digits-below-100 v (omega (arith, ord .1))))
 
 lines-length : (n : ℕ) (lines : List Line) → n ≤ mostRadios → All (λ line. (isRecord line ≡ true) × Ordered n line) lines → length (linesText lines) ≤ 11 * length lines
@@ -107,7 +136,7 @@ lines-length n (line ∷ lines) few ord =
 -- ---- the text of a map
 
 module _ (capture n S T k : ℕ) (table : List ℕ) (map : WritableMap n table) (a : capture ≤ mostNumber) (b : S ≤ mostNumber) (c : T ≤ mostNumber) (d : k ≤ mostNumber) where
-  text-length : length (captureText capture n S T k (linesIn n table)) ≤ 34 + 11 * links table n
+  text-length : length (captureText capture n S T k (linesIn n table)) ≤ 34 + 11 * (links table n + n)
   text-length =
       omega (
         arith,
@@ -115,7 +144,8 @@ module _ (capture n S T k : ℕ) (table : List ℕ) (map : WritableMap n table) 
         net-length capture n S T k a (omega (arith, map .few-radios)) b c d,
         lines-length n (linesIn n table) (map .few-radios) (lines-ordered n table map),
         lines-number n table,
+        few-handhelds n table,
       )
 
   pub text-fits : links table n ≤ mostLinks → length (captureText capture n S T k (linesIn n table)) ≤ mostBytes
-  text-fits few = omega (arith, text-length)
+  text-fits few = omega (arith, text-length, map .few-radios)

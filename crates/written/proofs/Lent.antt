@@ -3,36 +3,32 @@ use mathlib.Core.Path.{_≡_, refl, sym, ap, _∙_}
 use mathlib.Core.Bool.{Bool, true, false, _||_, cond}
 use mathlib.Core.List.{List, [], _∷_, _++_, List·Memᴰ}
 use mathlib.Core.Logic.{_⊎_, inl, inr}
-use Prim.Native.Nat.{ℕ, suc, _+_, _*_, _/_, _%_, _≤_, _<_}
+use Prim.Native.Nat.{ℕ, suc, _+_, _*_, _≤_, _<_}
 use native.Mathlib.Nat.{mul-le-mul}
 use native.Mathlib.Decide.{ℕ-discrete}
 use native.Mathlib.Omega.{arith}
 use lib.Dec.{eqb}
 use lib.ListN.{getD}
 use borrow.Author.Tests.{eq-eqb, eqb-true}
-use Rattle.basics.specs.Counting.{oneIf}
 use Rattle.basics.specs.Lists.{All}
-use Rattle.basics.proofs.Bools.{clash, both-ways, or-left, or-right, or-cases}
+use Rattle.basics.proofs.Bools.{both-ways, or-left, or-right, or-cases}
 use Rattle.basics.specs.Numbered.{Conditions, Gives, NoneHolds}
-use Rattle.basics.proofs.Counting.{some-counts}
 use Rattle.basics.proofs.Numbered.{gives-parts}
 use Rattle.site.specs.Limits.{mostRadios}
-use Rattle.site.specs.Map.{Site, degree, links, linkedOn, A}
+use Rattle.site.specs.Map.{A}
 use Rattle.refusals.specs.Refusals.{Call, callOf, verdict, number}
-use Rattle.refusals.specs.Conditions.{Fault, no-bit, diagonal, mirror, FirstIs, mapConditions, pairConditions, roomConditions, conditions}
-use Rattle.site.proofs.Formula.{Even, steps-and-degrees}
+use Rattle.refusals.specs.Conditions.{Fault, no-bit, mirror, FirstIs, mapConditions, pairConditions, roomConditions, conditions}
+use Rattle.site.proofs.Formula.{few-steps}
 use Rattle.refusals.proofs.Exactly.{call-exact}
 use Rattle.refusals.proofs.Accepted.{SoundMap, sound-map, GoodPair, good-pair}
 use Rattle.outcome.specs.Leaves.{outcome}
 use Rattle.captures.specs.Capture.{isRecord, atFault, faultLine, tableOf}
 use Rattle.captures.specs.declared.Line.{Line}
-use Rattle.captures.specs.declared.Line.the-variants.{Link, NoRecord}
 use Rattle.text_survey.specs.Survey.{logLent, pathsLent, cutLent}
-use Rattle.basics.proofs.Places.{row-of, column-of}
 use Rattle.captures.proofs.Cells.{isCell, cellOf, mirrorOf, Ordered, own-in, cells-are, mirror-in, mirror-back, good-ordered}
 use Rattle.written.proofs.Tables.{inCells, all-there, cell-in, cell-of, cell-record, table-of-long, table-of-cell}
 
--- ---- 3, 12 and 13: the table of good lines has no bad cell
+-- ---- 3 and 13: the table of good lines has no bad cell
 
 -- where no line is at fault all are in order
 all-ordered : (n number : ℕ) (before lines : List Line) → faultLine n (suc number) before lines ≡ 0 → All (Ordered n) lines
@@ -59,18 +55,6 @@ cell-mirror n line place some ord c = cells-are n line (mirrorOf n place) is ord
     go (inl e) = or-right (eqb (mirrorOf n place) own) (eqb (mirrorOf n place) (mirrorOf n own)) (eq-eqb _ _ (ap (mirrorOf n) (eqb-true _ _ e)))
     go (inr e) = or-left (eqb (mirrorOf n place) own) (eqb (mirrorOf n place) (mirrorOf n own)) (eq-eqb _ _ (ap (mirrorOf n) (eqb-true _ _ e) ∙ mirror-back n own (own-in n line is ord) some))
 
--- which is not on the diagonal
-cell-off : (n : ℕ) (line : Line) (place : ℕ) → Ordered n line → isCell n place line ≡ true → place / n ≡ place % n → ⊥
-cell-off n NoRecord place ord c on = clash c refl
-cell-off n (Link u v) place ord c on = go (or-cases (eqb place (u * n + v)) (eqb place (v * n + u)) c)
-  where
-    at : (a b : ℕ) → b < n → place ≡ a * n + b → a ≡ b
-    at a b p e = sym (ap (λ (x : ℕ). x / n) e ∙ row-of n a b p) ∙ on ∙ ap (λ (x : ℕ). x % n) e ∙ column-of n a b p
-
-    go : (eqb place (u * n + v) ≡ true) ⊎ (eqb place (v * n + u) ≡ true) → ⊥
-    go (inl e) = omega (arith, ord .0, at u v (ord .1) (eqb-true _ _ e))
-    go (inr e) = omega (arith, ord .0, at v u (omega (arith, ord .0, ord .1)) (eqb-true _ _ e))
-
 no-fault : (n : ℕ) (lines : List Line) → All (Ordered n) lines → 0 < n → (place : ℕ) → place < n * n → Fault (tableOf n lines) n place → ⊥
 no-fault n lines ord some place p = go (inCells n place lines) refl
   where
@@ -89,20 +73,7 @@ no-fault n lines ord some place p = go (inCells n place lines) refl
     go : (b : Bool) → inCells n place lines ≡ b → Fault (tableOf n lines) n place → ⊥
     go true is (no-bit (zero, one)) = one (cell true is)
     go false is (no-bit (zero, one)) = zero (cell false is)
-    go true is (diagonal (on, nonzero)) = let w = cell-in n place lines is in cell-off n (w .line) place (of (w .line) (w .there)) (w .is) on
-    go false is (diagonal (on, nonzero)) = nonzero (cell false is)
     go b is (mirror differ) = differ (cell b is ∙ sym (table-of-cell n lines (mirrorOf n place) (mirror-in n place p some) ∙ ap (λ (x : Bool). cond x 1 0) (sym same ∙ is)))
-
--- ---- 7: the longest log
-
--- with S and T linked S has a link, so there are at most 2m + n − 2 steps
-most-steps : (site : Site) → site .S < site .n → site .T < site .n → (site .S ≡ site .T → ⊥) → Even (site .table) (site .n)
-    → A site + 2 ≤ 2 * links (site .table) (site .n) + site .n
-most-steps site source sink differ even = omega (arith, steps-and-degrees site source sink differ even, direct (linkedOn site (site .S) (site .T)) refl)
-  where
-    direct : (b : Bool) → linkedOn site (site .S) (site .T) ≡ b → oneIf b ≤ degree (site .table) (site .n) (site .S)
-    direct true e = omega (arith, some-counts (linkedOn site (site .S)) (site .n) (site .T) sink e)
-    direct false e = omega arith
 
 -- ---- the refusals that are left
 
@@ -141,9 +112,8 @@ module _ (n S T k : ℕ) (lines : List Line) (two : 2 ≤ n) (most : n ≤ mostR
   not-by-map c (inr (p₁, inl (e, p))) = absurd (p (table-of-long n lines))
   not-by-map c (inr (p₁, inr (p₂, inl (e, p)))) = absurd (no-first p)
   not-by-map c (inr (p₁, inr (p₂, inr (p₃, inl (e, p))))) = absurd (no-first p)
-  not-by-map c (inr (p₁, inr (p₂, inr (p₃, inr (p₁₂, inl (e, p)))))) = absurd (no-first p)
-  not-by-map c (inr (p₁, inr (p₂, inr (p₃, inr (p₁₂, inr (p₁₃, inl (e, p))))))) = e
-  not-by-map c (inr (p₁, inr (p₂, inr (p₃, inr (p₁₂, inr (p₁₃, inr (p₄, g))))))) = absurd g
+  not-by-map c (inr (p₁, inr (p₂, inr (p₃, inr (p₁₃, inl (e, p)))))) = e
+  not-by-map c (inr (p₁, inr (p₂, inr (p₃, inr (p₁₃, inr (p₄, g)))))) = absurd g
 
   -- 17 · 574 messages of four bytes are the 39,032 lent
   not-by-room : (c : ℕ) → NoneHolds on-map → NoneHolds on-pair → Gives on-room c → ⊥
@@ -157,7 +127,7 @@ module _ (n S T k : ℕ) (lines : List Line) (two : 2 ≤ n) (most : n ≤ mostR
 
       messages : (2 * k + 1) * A (call .site) ≤ 17 * 574
       messages =
-          let steps = most-steps (call .site) (pair .S-below) (pair .T-below) (pair .ends-differ) (map .even) in
+          let steps = few-steps (call .site) (pair .S-below) (pair .T-below) (pair .ends-differ) (map .even) in
           mul-le-mul {n₂ = 17} {m₂ = 574} (omega (arith, pair .few-wanted)) (omega (arith, steps, map .few-links, map .few-radios))
 
       go : Gives on-room c → ⊥

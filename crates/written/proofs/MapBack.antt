@@ -10,15 +10,15 @@ use native.Mathlib.Omega.{arith}
 use lib.Dec.{eqb, ltb}
 use lib.ListN.{getD}
 use lib.Seq.{ext-getD}
-use borrow.Author.Tests.{eq-eqb, eqb-true, lt-ltb, ltb-true}
+use borrow.Author.Tests.{eq-eqb, eqb-true, lt-ltb, le-ltb, ltb-true}
 use Rattle.basics.specs.Lists.{All}
 use Rattle.basics.proofs.Bools.{clash, not-true→false, or-left, or-right, or-cases}
 use Rattle.basics.proofs.Places.{row-of, column-of, row-below, column-below}
-use Rattle.refusals.specs.Conditions.{Fault, no-bit, diagonal, mirror}
+use Rattle.refusals.specs.Conditions.{Fault, no-bit, mirror}
 use Rattle.refusals.proofs.Exactly.{sound-table}
 use Rattle.captures.specs.Capture.{isRecord, says, came, atFault, faultLine, tableOf}
 use Rattle.captures.specs.declared.Line.{Line}
-use Rattle.captures.specs.declared.Line.the-variants.{Link, NoRecord}
+use Rattle.captures.specs.declared.Line.the-variants.{Link, Hand, NoRecord}
 use Rattle.captures.proofs.Cells.{isCell, cellOf, mirrorOf, Ordered, says-same, cells-are, mirror-in, mirror-back, good-new}
 use Rattle.written.specs.Writing.{lineAt, cellLines, linesIn}
 use Rattle.written.specs.Reading.{WritableMap, Fills}
@@ -33,7 +33,7 @@ record Said (n : ℕ) (table : List ℕ) (place : ℕ) (line : Line) : Type 0 wh
   ordered : Ordered n line
 
 cell-said : (n : ℕ) (table : List ℕ) (place : ℕ) → 0 < n → isRecord (lineAt n table place) ≡ true → Said n table place (lineAt n table place)
-cell-said n table place some = go (eqb (getD table place 0) 1) (ltb u v) refl refl
+cell-said n table place some = go (eqb (getD table place 0) 1) (ltb u v) (eqb u v) refl refl refl
   where
     u : ℕ
     u = place / n
@@ -41,16 +41,22 @@ cell-said n table place some = go (eqb (getD table place 0) 1) (ltb u v) refl re
     v : ℕ
     v = place % n
 
-    go : (one above : Bool) → eqb (getD table place 0) 1 ≡ one → ltb u v ≡ above
-        → let line = cond one (cond above (Link u v) NoRecord) NoRecord in
+    go : (one above on : Bool) → eqb (getD table place 0) 1 ≡ one → ltb u v ≡ above → eqb u v ≡ on
+        → let line = cond one (cond above (Link u v) (cond on (Hand v) NoRecord)) NoRecord in
         isRecord line ≡ true → Said n table place line
-    go true true e a is = record { one = eqb-true _ _ e; own = div-add-mod' place n; ordered = (ltb-true u v a, column-below n place some) }
-    go true false e a is = clash is refl
-    go false above e a is = clash is refl
+    go true true on e a o is = record { one = eqb-true _ _ e; own = div-add-mod' place n; ordered = (ltb-true u v a, column-below n place some) }
+    go true false true e a o is =
+        record { one = eqb-true _ _ e; own = ap (λ (x : ℕ). x * n + v) (sym (eqb-true u v o)) ∙ div-add-mod' place n; ordered = column-below n place some }
+    go true false false e a o is = clash is refl
+    go false above on e a o is = clash is refl
 
--- each 1 above the diagonal says something
-one-said : (n : ℕ) (table : List ℕ) (place : ℕ) → place / n < place % n → getD table place 0 ≡ 1 → isRecord (lineAt n table place) ≡ true
-one-said n table place above one = rw (eq-eqb (getD table place 0) 1 one, lt-ltb (place / n) (place % n) above)
+-- each 1 says something, unless it is below the diagonal
+one-said : (n : ℕ) (table : List ℕ) (place : ℕ) → place / n ≤ place % n → getD table place 0 ≡ 1 → isRecord (lineAt n table place) ≡ true
+one-said n table place above one = go (decLt (place / n) (place % n))
+  where
+    go : Dec (place / n < place % n) → isRecord (lineAt n table place) ≡ true
+    go (yes l) = rw (eq-eqb (getD table place 0) 1 one, lt-ltb (place / n) (place % n) l)
+    go (no l) = rw (eq-eqb (getD table place 0) 1 one, le-ltb (place / n) (place % n) (omega arith), eq-eqb (place / n) (place % n) (omega arith))
 
 -- ---- the lines in row order
 
@@ -162,26 +168,25 @@ module _ (n : ℕ) (table : List ℕ) (map : WritableMap n table) where
       let w = cell-in n cell (linesIn n table) c in
       all-there (λ line. isCell n cell line ≡ true → getD table cell 0 ≡ 1) (linesIn n table) (each-line _ n table 0 (n * n) (λ place p. cell-one cell place (omega arith))) (w .line) (w .there) (w .is)
 
-  -- a place above the diagonal whose cell is 1 is a cell of a line, and so is its mirror
-  cells-of : (place cell : ℕ) → place < n * n → place / n < place % n → getD table place 0 ≡ 1 → (eqb cell place || eqb cell (mirrorOf n place)) ≡ true → inCells n cell (linesIn n table) ≡ true
+  -- a place not below the diagonal whose cell is 1 is a cell of a line, and so is its mirror
+  cells-of : (place cell : ℕ) → place < n * n → place / n ≤ place % n → getD table place 0 ≡ 1 → (eqb cell place || eqb cell (mirrorOf n place)) ≡ true → inCells n cell (linesIn n table) ≡ true
   cells-of place cell p above one c =
       let is = one-said n table place above one in
       cell-of n cell (lineAt n table place) (linesIn n table) (line-given n table 0 (n * n) place (omega arith) (omega arith) is) (cells-said n table some place cell is ∙ c)
 
   -- a cell that is 1 is a cell of a line
   one-in-cells : (cell : ℕ) → cell < n * n → getD table cell 0 ≡ 1 → inCells n cell (linesIn n table) ≡ true
-  one-in-cells cell p one = pick (decLt (cell / n) (cell % n)) (decLt (cell % n) (cell / n))
+  one-in-cells cell p one = pick (decLt (cell % n) (cell / n))
     where
       row : cell / n < n
       row = row-below n cell some p
 
-      below : cell % n < cell / n → mirrorOf n cell / n < mirrorOf n cell % n
-      below l = rw (row-of n (cell % n) (cell / n) row, column-of n (cell % n) (cell / n) row) l
+      below : cell % n < cell / n → mirrorOf n cell / n ≤ mirrorOf n cell % n
+      below l = rw (row-of n (cell % n) (cell / n) row, column-of n (cell % n) (cell / n) row) (omega arith)
 
-      pick : Dec (cell / n < cell % n) → Dec (cell % n < cell / n) → inCells n cell (linesIn n table) ≡ true
-      pick (yes l) d = cells-of cell cell p l one (or-left (eqb cell cell) (eqb cell (mirrorOf n cell)) (eq-eqb cell cell refl))
-      pick (no c) (no d) = absurd (no-fault cell p (diagonal (omega arith, λ e. omega arith)))
-      pick (no c) (yes l) =
+      pick : Dec (cell % n < cell / n) → inCells n cell (linesIn n table) ≡ true
+      pick (no d) = cells-of cell cell p (omega arith) one (or-left (eqb cell cell) (eqb cell (mirrorOf n cell)) (eq-eqb cell cell refl))
+      pick (yes l) =
           cells-of (mirrorOf n cell) cell (mirror-in n cell p some) (below l) (sym (mirrored cell p) ∙ one)
           (or-right (eqb cell (mirrorOf n cell)) (eqb cell (mirrorOf n (mirrorOf n cell))) (eq-eqb cell _ (sym (mirror-back n cell p some))))
 

@@ -9,12 +9,12 @@ use lib.ListN.{getD}
 use borrow.Author.Tests.{eq-eqb, ne-eqb, ltb-false, not-true}
 use Rattle.basics.specs.Lists.{All}
 use Rattle.basics.proofs.Bools.{and-left, and-right}
-use Rattle.captures.specs.Words.{tab, lineFeed, net, link}
+use Rattle.captures.specs.Words.{tab, lineFeed, net, link, hand}
 use Rattle.captures.specs.Text.{pieces, same, isDigit, allDigits, mostNumber, decimal}
 use Rattle.captures.specs.Capture.{headOf, lineOf, isRecord, rightShape, wrongLine, linesOf}
 use Rattle.captures.specs.declared.Head.the-variants.{Net}
 use Rattle.captures.specs.declared.Line.{Line}
-use Rattle.captures.specs.declared.Line.the-variants.{Link, NoRecord}
+use Rattle.captures.specs.declared.Line.the-variants.{Link, Hand, NoRecord}
 use Rattle.sheet_lines.specs.Lines.{field}
 use Rattle.written.specs.Writing.{netFields, lineFields, linesText, captureText}
 use Rattle.written.specs.Reading.{Sayable, ReadBack}
@@ -104,13 +104,21 @@ link-free : (separator : ℕ) → separator < 48 → Free separator link
 link-free separator low =
     more {x = 108} (λ e. omega arith) (more {x = 105} (λ e. omega arith) (more {x = 110} (λ e. omega arith) (more {x = 107} (λ e. omega arith) none)))
 
+hand-free : (separator : ℕ) → separator < 48 → Free separator hand
+hand-free separator low =
+    more {x = 104} (λ e. omega arith) (more {x = 97} (λ e. omega arith) (more {x = 110} (λ e. omega arith) (more {x = 100} (λ e. omega arith) none)))
+
 line-fields-free : (line : Line) → Sayable line → Free lineFeed (lineFields line)
 line-fields-free NoRecord small = absurd small
+line-fields-free (Hand v) small = free-append (hand-free lineFeed (omega arith)) (field-free v)
 line-fields-free (Link u v) small = free-append (link-free lineFeed (omega arith)) (free-append (field-free u) (field-free v))
 
 line-back : (line : Line) → Sayable line → lineOf (lineFields line) ≡ line
 unfolding lineOf same
 line-back NoRecord small = absurd small
+line-back (Hand v) small =
+    let parts : pieces tab (lineFields (Hand v)) ≡ hand ∷ decimal v ∷ [] = piece-then tab hand _ (hand-free tab (omega arith)) ∙ ap (λ (p : List (List ℕ)). hand ∷ p) (number-only v) in
+    rw (parts, decimal-number v small, decimal-value v)
 line-back (Link u v) small =
     let parts : pieces tab (lineFields (Link u v)) ≡ link ∷ decimal u ∷ decimal v ∷ [] =
     piece-then tab link _ (link-free tab (omega arith)) ∙ ap (λ (p : List (List ℕ)). link ∷ p) (number-then u _ _ (number-only v))
@@ -119,6 +127,7 @@ line-back (Link u v) small =
 
 record-said : (line : Line) → Sayable line → isRecord line ≡ true
 record-said NoRecord small = absurd small
+record-said (Hand v) small = refl
 record-said (Link u v) small = refl
 
 -- without their line feeds, and what stands after the last of them

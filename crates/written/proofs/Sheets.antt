@@ -14,7 +14,7 @@ use Rattle.captures.specs.Capture.{headOf, isRecord, linesOf, faultLine}
 use Rattle.captures.specs.declared.Head.{Head}
 use Rattle.captures.specs.declared.Head.the-variants.{Net}
 use Rattle.captures.specs.declared.Line.{Line}
-use Rattle.captures.specs.declared.Line.the-variants.{Link, NoRecord}
+use Rattle.captures.specs.declared.Line.the-variants.{Link, Hand, NoRecord}
 use Rattle.captures.proofs.Cells.{Ordered}
 use Rattle.text_survey.specs.declared.FirstLine.{FirstLine}
 use Rattle.text_survey.specs.Survey.{mostBytes, surveyFor, ofHead}
@@ -29,6 +29,7 @@ module _ (capture n S T k : ℕ) (table : List ℕ) (map : WritableMap n table) 
   -- radios below n are numbers that a text may say
   sayable : (line : Line) → isRecord line ≡ true → Ordered n line → Sayable line
   sayable NoRecord is ord = clash is refl
+  sayable (Hand v) is ord = omega (arith, map .few-radios, ord)
   sayable (Link u v) is ord = (omega (arith, map .few-radios, ord .0, ord .1), omega (arith, map .few-radios, ord .1))
 
   read : ReadBack (captureText capture n S T k (linesIn n table)) capture n S T k (linesIn n table)

@@ -12,7 +12,7 @@ use Rattle.basics.proofs.Bools.{clash, both-ways, or-left, or-right, or-cases}
 use Rattle.captures.specs.Capture.{isRecord, withLine, tableWith, tableOf}
 use Rattle.captures.proofs.Cells.{isCell, cond-or, with-cell, with-long}
 use Rattle.captures.specs.declared.Line.{Line}
-use Rattle.captures.specs.declared.Line.the-variants.{Link, NoRecord}
+use Rattle.captures.specs.declared.Line.the-variants.{Link, Hand, NoRecord}
 
 -- ---- the cells of the lines
 
@@ -76,6 +76,7 @@ cell-of n place line (other ∷ lines) (List·Memᴰ·tail m) c = or-right (isCe
 
 pub cell-record : (n place : ℕ) (line : Line) → isCell n place line ≡ true → isRecord line ≡ true
 cell-record n place (Link u v) c = refl
+cell-record n place (Hand v) c = refl
 cell-record n place NoRecord c = c
 
 cells-kept : (n place : ℕ) (lines lines′ : List Line) → Among lines lines′ → inCells n place lines ≡ true → inCells n place lines′ ≡ true

@@ -11,7 +11,7 @@ use Rattle.captures.specs.Text.{pieces, mostNumber}
 use Rattle.captures.specs.Capture.{headOf, wrongLine, linesOf, faultLine, tableOf}
 use Rattle.captures.specs.declared.Head.the-variants.{Net}
 use Rattle.captures.specs.declared.Line.{Line}
-use Rattle.captures.specs.declared.Line.the-variants.{Link, NoRecord}
+use Rattle.captures.specs.declared.Line.the-variants.{Link, Hand, NoRecord}
 use Rattle.text_survey.specs.Survey.{mostBytes}
 
 -- the lines of a text; what stands after the last line feed is the last of them
@@ -26,6 +26,7 @@ otherLines text = tail (pieces lineFeed text)
 -- a text may say this
 abbrev pub Sayable : Line → Type 0
 Sayable (Link u v) = (u ≤ mostNumber) × (v ≤ mostNumber)
+Sayable (Hand v) = v ≤ mostNumber
 Sayable NoRecord = ⊥
 
 -- the text has the right shape, and its lines say these numbers and these things
@@ -34,7 +35,7 @@ pub record ReadBack (text : List ℕ) (capture n S T k : ℕ) (lines : List Line
   pub head : headOf (firstLine text) ≡ Net capture n S T k
   pub others : linesOf (otherLines text) ≡ lines
 
--- a map that no refusal 1 to 3 is against
+-- a map that no refusal 1, 2, 3 or 13 is against
 pub record WritableMap (n : ℕ) (table : List ℕ) : Type 0 where
   pub two-radios : 2 ≤ n
   pub few-radios : n ≤ mostRadios

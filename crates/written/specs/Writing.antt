@@ -4,11 +4,11 @@ use mathlib.Core.List.{List, [], _∷_, _++_}
 use Prim.Native.Nat.{ℕ, zero, suc, _*_, _/_, _%_}
 use lib.Dec.{eqb, ltb}
 use lib.ListN.{getD}
-use Rattle.captures.specs.Words.{net, link}
+use Rattle.captures.specs.Words.{net, link, hand}
 use Rattle.captures.specs.Text.{decimal}
 use Rattle.captures.specs.Capture.{isRecord}
 use Rattle.captures.specs.declared.Line.{Line}
-use Rattle.captures.specs.declared.Line.the-variants.{Link, NoRecord}
+use Rattle.captures.specs.declared.Line.the-variants.{Link, Hand, NoRecord}
 use Rattle.sheet_lines.specs.Lines.{field, ended}
 
 -- ---- lines
@@ -20,9 +20,10 @@ netFields capture n S T k = net ++ (field (decimal capture) ++ (field (decimal n
 abbrev pub netLine : ℕ → ℕ → ℕ → ℕ → ℕ → List ℕ
 netLine capture n S T k = netFields capture n S T k ++ ended []
 
--- every other line: link and two radios
+-- every other line: link and two radios, or hand and one
 abbrev pub lineFields : Line → List ℕ
 lineFields (Link u v) = link ++ (field (decimal u) ++ field (decimal v))
+lineFields (Hand v) = hand ++ field (decimal v)
 lineFields NoRecord = []
 
 abbrev pub lineText : Line → List ℕ
@@ -37,9 +38,9 @@ captureText capture n S T k lines = netLine capture n S T k ++ linesText lines
 
 -- ---- the lines of a table
 
--- what a 1 in row u and column v says: above the diagonal a link. Below it the mirror cell has said so
+-- what a 1 in row u and column v says: above the diagonal a link, on it a handheld. Below it the mirror cell has said so
 abbrev pub oneSays : ℕ → ℕ → Line
-oneSays u v = cond (ltb u v) (Link u v) NoRecord
+oneSays u v = cond (ltb u v) (Link u v) (cond (eqb u v) (Hand v) NoRecord)
 
 -- what the cell at a place says; that of row u and column v is at u·n+v
 abbrev pub lineAt : ℕ → List ℕ → ℕ → Line

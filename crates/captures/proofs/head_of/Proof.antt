@@ -11,8 +11,9 @@ use Rattle.captures.specs.Words.{tab}
 use Rattle.captures.specs.Capture.{headOf}
 use Rattle.captures.specs.declared.Head.{Head}
 use Rattle.captures.specs.declared.Head.the-variants.{NoNet}
-use Rattle.captures.proofs.Pieces.{piecesFrom, end-between}
-use Rattle.captures.proofs.Shapes.{reading, netOf, head-shape, reading-more, reading-none, reading-done, reading-past}
+use Rattle.captures.specs.Reading.{piecesFrom, reading}
+use Rattle.captures.proofs.Pieces.{end-between}
+use Rattle.captures.proofs.Shapes.{netOf, head-shape, reading-more, reading-none, reading-done, reading-past}
 use Rattle.captures.proofs.head_of.Statement.{statement}
 use Rattle.captures.proofs.head_of.Tie as tie
 

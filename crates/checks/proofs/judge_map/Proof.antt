@@ -29,7 +29,7 @@ mapped c =
 
 returns : tie.Need-returns
 returns c =
-    told-radios (⊎-elim (λ w. or-left _ _ (sym (past tie.After-too-few (search) .too-few .ensures) ∙ w .taken)) (λ w. or-right (tooFew (past tie.Start (search) .args .n)) _ (sym (w .1 .ensures) ∙ w .2 .taken)) (c .if1 .came))
+    told-radios (c .no-map .ensures) (⊎-elim (λ w. or-left _ _ (sym (past tie.After-too-few (search) .too-few .ensures) ∙ w .taken)) (λ w. or-right (tooFew (past tie.Start (search) .args .n)) _ (sym (w .1 .ensures) ∙ w .2 .taken)) (past tie.Joined1 (search) .if1 .came))
 
 mul-if3 : tie.Need-mul-if3
 mul-if3 c =
@@ -37,18 +37,18 @@ mul-if3 c =
     omega (arith, mul-le-mul {n₂ = mostRadios} {m₂ = mostRadios} most most)
 
 returns-2 : tie.Need-returns-2
-returns-2 c = told-length (size (search) .0) (size (search) .1) (c .if3 .taken)
+returns-2 c = told-length (size (search) .0) (size (search) .1) (c .no-map2 .ensures) (past tie.Then3 (search) .if3 .taken)
 
 returns-3 : tie.Need-returns-3
 returns-3 c =
     let told = past tie.After-check-table (search) .check-table .ensures .told in
-    told-cell (size (search) .0) (size (search) .1) (search) (c .passed-on .ensures ∙ ap passed told) (sym (ap isBad told) ∙ sym (past tie.After-is-bad (search) .is-bad .ensures) ∙ past tie.Then4 (search) .if4 .taken)
+    told-cell (size (search) .0) (size (search) .1) (c .no-map3 .ensures) (search) (past tie.After-passed-on (search) .passed-on .ensures ∙ ap passed told) (sym (ap isBad told) ∙ sym (past tie.After-is-bad (search) .is-bad .ensures) ∙ past tie.Then4 (search) .if4 .taken)
 
 returns-4 : tie.Need-returns-4
-returns-4 c = told-links (mapped (search)) (c .if5 .taken)
+returns-4 c = told-links (mapped (search)) (c .no-map4 .ensures) (past tie.Then5 (search) .if5 .taken)
 
 returns-5 : tie.Need-returns-5
-returns-5 c = told-sound (mapped (search)) (search)
+returns-5 c = told-sound (mapped (search)) (c .ordinary .ensures) (search)
 
 pub judge-map-spec : {M : Type 1} → statement M
 judge-map-spec =
@@ -56,13 +56,18 @@ judge-map-spec =
     (tie.spec
     (λ c κs. tt)
     (λ c κs. tt)
+    (λ c κs. tt)
     returns
     mul-if3
+    (λ c κs. tt)
     returns-2
     (λ c κs. (size (search) .1, search))
     (λ c κs. tt)
     (λ c κs. tt)
+    (λ c κs. tt)
     returns-3
     (λ c κs. size (search) .1)
+    (λ c κs. tt)
     returns-4
+    (λ c κs. (size (search) .1, search))
     returns-5)

@@ -1,9 +1,12 @@
 -- `checks::row_of` meets its contract. The loop's invariant: the set holds the cells passed. Assumes nothing.
-use mathlib.Core.Path.{_≡_}
+use mathlib.Core.Path.{_≡_, ap, _∙_}
+use mathlib.Core.Bool.{Bool, not, _&&_}
+use lib.Dec.{eqb}
 use Prim.Native.Nat.{_*_, _-_, _≤_}
 use native.Mathlib.Omega.{arith}
 use Rattle.basics.proofs.Places.{in-table}
-use Rattle.checks.proofs.Gathering.{RowSoFar, cell-more}
+use Rattle.checks.proofs.Gathering.{RowSoFar, one-more}
+use Rattle.checks.proofs.Cells.{linked-row}
 use Rattle.checks.proofs.row_of.Statement.{statement}
 use Rattle.checks.proofs.row_of.Tie as tie
 
@@ -38,7 +41,7 @@ shared-slice-read-with-where c =
 loop-again : tie.Need-loop-again Inv-loop μ-loop
 loop-again c =
     let l = past tie.At-loop (search) .loop in
-    (omega arith, cell-more (past tie.Start (search) .args .table .now) (past tie.After-place (search) .place .result) (l .j) (l .row) (c .with-where .result) (l .inv .1) (c .with-where .ensures))
+    (omega arith, one-more _ (l .j) (l .row) (c .with-where .result) (l .inv .1) (c .with-where .ensures))
 
 returns : tie.Need-returns Inv-loop μ-loop
 returns c =
@@ -46,7 +49,8 @@ returns c =
     let l = (let p : tie.At-loop Inv-loop μ-loop = search in p .loop) in
     let start : (let p : tie.After-place Inv-loop μ-loop = search in p .place .result) ≡ at .i * at .n = omega arith in
     let end : l .j ≡ at .n = omega arith in
-    rw (start, end) at (l .inv .1)
+    let row = rw (start, end) at (l .inv .1) in
+    λ j. c .without .ensures j ∙ ap (λ (b : Bool). not (eqb j (at .i)) && b) (row j) ∙ linked-row (at .table .now) (at .n) (at .i) j (omega arith)
 
 pub row-of-spec : {M : Type 1} → statement M
 row-of-spec =
@@ -64,4 +68,5 @@ row-of-spec =
     (λ c. omega arith)
     (λ c. omega arith)
     loop-again
+    (λ c κs. omega arith)
     returns)

@@ -1,12 +1,9 @@
 -- `openings::inside` meets its contract. Assumes nothing.
-use mathlib.Core.Path.{refl, sym, _∙_}
-use mathlib.Core.Bool.{or-false, and-true}
-use mathlib.Core.Logic.{⊎-elim}
-use borrow.Author.Needs.{needs}
-use borrow.Author.Tests.{eqb-true, eqb-false}
+use mathlib.Core.Path.{sym, _∙_}
+use mathlib.Core.Bool.{and-true, and-false, or-false}
+use native.Mathlib.Omega.{arith}
+use borrow.Author.Tests.{not-true, not-false}
 use Rattle.radios.proofs.Laws.{member-empty}
-use Rattle.site.proofs.Steps.{may-pass}
-use Rattle.openings.proofs.Start.{not-S, not-T, no-way}
 use Rattle.openings.proofs.inside.Statement.{statement}
 use Rattle.openings.proofs.inside.Tie as tie
 
@@ -14,12 +11,14 @@ abbrev past : (P : Type 0) → P → P
 past P p = p
 
 returns : tie.Need-returns
-returns c = λ site v below source sink. no-way site _ (⊎-elim (λ w. not-S site _ (w .taken ∙ sym source)) (λ w. not-T site _ (eqb-true _ _ (w .1 .taken) ∙ sym sink)) (c .if1 .came)) v
+returns c = λ v.
+    let has = past tie.After-has (search) .has in
+    member-empty v ∙ sym (simp (sym (has .ensures) ∙ not-true (has .result) (past tie.Then1 (search) .if1 .taken), and-false))
 
 returns-2 : tie.Need-returns-2
-returns-2 c = λ site v below source sink.
-    let pass = may-pass site _ (record { below = below; not-S = λ e. past tie.Else1 (search) .if1 .left (e ∙ source); not-T = λ e. eqb-false _ _ (past tie.Else2 (search) .if2 .left) (e ∙ sink) }) in
-    c .with .ensures v ∙ rw (member-empty v, pass, or-false, and-true) refl
+returns-2 c = λ v.
+    let has = past tie.After-has (search) .has in
+    c .with .ensures v ∙ simp (member-empty v, sym (has .ensures) ∙ not-false (has .result) (past tie.Else1 (search) .if1 .left), and-true, or-false)
 
 pub inside-spec : {M : Type 1} → statement M
-inside-spec = tie.close (tie.spec returns (λ c κs. search needs) returns-2)
+inside-spec = tie.close (tie.spec (λ c κs. omega arith) returns (λ c κs. omega arith) returns-2)

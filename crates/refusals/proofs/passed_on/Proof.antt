@@ -14,9 +14,6 @@ returns-2 c = sym (ap passed (past tie.After-finding (search) .finding .given .1
 returns-3 : tie.Need-returns-3
 returns-3 c = sym (ap passed (past tie.After-finding2 (search) .finding2 .given .1))
 
-returns-4 : tie.Need-returns-4
-returns-4 c = sym (ap passed (past tie.After-finding3 (search) .finding3 .given .1))
-
 pub passed-on-spec : {M : Type 1} → statement M
 passed-on-spec =
     tie.close
@@ -25,7 +22,5 @@ passed-on-spec =
     (λ c. search needs)
     (λ c. search needs)
     (λ c. search needs)
-    (λ c. search needs)
     returns-2
-    returns-3
-    returns-4)
+    returns-3)

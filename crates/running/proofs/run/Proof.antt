@@ -11,7 +11,7 @@ past P p = p
 
 -- the rows and bytes at the start
 abbrev rows′ : tie.After-fill → List ℕ
-rows′ c = c .fill .last .1 .1 .1 .1 .0
+rows′ c = c .fill .last .1 .1 .1 .1 .1 .0
 
 abbrev entered′ : tie.After-enter-only → List ℕ
 entered′ c = c .enter-only .last .0

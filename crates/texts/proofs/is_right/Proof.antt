@@ -36,8 +36,14 @@ returns-3 c = sym (right-line _ _ _ (past tie.Else1 (search) .if1 .left) (past t
 enum-told-4 : tie.Need-enum-told-4
 enum-told-4 c = omega arith
 
+enum-told-5 : tie.Need-enum-told-5
+enum-told-5 c = omega arith
+
 returns-4 : tie.Need-returns-4
 returns-4 c = sym (right-line _ _ _ (past tie.Else1 (search) .if1 .left) (past tie.After-line-of (search) .line-of .ensures) ∙ ap isRecord (c .enum-told4 .given .1))
+
+returns-5 : tie.Need-returns-5
+returns-5 c = sym (right-line _ _ _ (past tie.Else1 (search) .if1 .left) (past tie.After-line-of (search) .line-of .ensures) ∙ ap isRecord (c .enum-told5 .given .1))
 
 pub is-right-spec : {M : Type 1} → statement M
 is-right-spec =
@@ -50,6 +56,8 @@ is-right-spec =
     returns-2
     line-of-requires
     enum-told-3
-    returns-3
     enum-told-4
-    returns-4)
+    enum-told-5
+    returns-3
+    returns-4
+    returns-5)
