@@ -135,6 +135,10 @@ unfolding sum
 sum-le f g zero h = omega arith
 sum-le f g (suc n) h = omega (arith, h n (omega arith), sum-le f g n (λ x p. h x (omega arith)))
 
+-- no more numbers below n pass a test than there are
+pub count-most : (test : ℕ → Bool) (n : ℕ) → count test n ≤ n
+count-most test n = omega (arith, sum-le (λ x. oneIf (test x)) (λ x. 1) n (λ x p. one-at-most (test x)), sum-one n)
+
 -- a test that passes only where another does counts for no more
 pub one-le : (a b : Bool) → (a ≡ true → b ≡ true) → oneIf a ≤ oneIf b
 one-le true b h = omega (arith, ap oneIf (h refl))

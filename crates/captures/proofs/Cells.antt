@@ -1,6 +1,6 @@
 -- The cells of the table that a line fills, and which lines are good. Assumes nothing.
 use mathlib.Core.Path.{_≡_, refl, sym, ap, ap₂, _∙_}
-use mathlib.Core.Bool.{Bool, true, false, not, _||_, cond}
+use mathlib.Core.Bool.{Bool, true, false, not, _||_, cond, or-self}
 use mathlib.Core.List.{List}
 use mathlib.Core.Logic.{_⊎_, inl, inr, ⊎-elim}
 use Prim.Native.Nat.{ℕ, _+_, _*_, _/_, _%_, _<_}
@@ -12,7 +12,7 @@ use lib.ListN.{length, getD, set, length-set}
 use lib.Seq.{getD-set-same, getD-set-other}
 use borrow.Author.Tests.{eq-eqb, ne-eqb, eqb-true, lt-ltb, ltb-true}
 use Rattle.basics.proofs.Bools.{clash, both-ways, or-left, or-cases, and-left, and-right, and-both}
-use Rattle.basics.proofs.Places.{row-of, column-of, in-table, row-below, column-below}
+use Rattle.basics.proofs.Places.{row-of, column-of, one-row-one-column, in-table, row-below, column-below}
 use Rattle.captures.specs.Capture.{isRecord, says, came, atFault, withLine}
 use Rattle.captures.specs.declared.Line.{Line}
 use Rattle.captures.specs.declared.Line.the-variants.{Link, Hand, NoRecord}
@@ -73,11 +73,6 @@ own-in n NoRecord is ord = clash is refl
 own-in n (Hand v) is ord = in-table n v v ord ord
 own-in n (Link u v) is ord = in-table n u v (omega (arith, ord .0, ord .1)) (ord .1)
 
--- a place is of one row and one column
-same-place : (n a b u v : ℕ) → b < n → v < n → a * n + b ≡ u * n + v → (a ≡ u) × (b ≡ v)
-same-place n a b u v hb hv e =
-    (sym (row-of n a b hb) ∙ ap (λ (x : ℕ). x / n) e ∙ row-of n u v hv, sym (column-of n a b hb) ∙ ap (λ (x : ℕ). x % n) e ∙ column-of n u v hv)
-
 -- lines that say the same are the same
 pub says-same : (line other : Line) → says line other ≡ true → line ≡ other
 says-same NoRecord other e = clash e refl
@@ -87,10 +82,6 @@ says-same (Hand v) (Hand w) e = ap Hand (eqb-true v w e)
 says-same (Link u v) NoRecord e = clash e refl
 says-same (Link u v) (Hand w) e = clash e refl
 says-same (Link u v) (Link a b) e = ap₂ Link (eqb-true u a (and-left (eqb u a) (eqb v b) e)) (eqb-true v b (and-right (eqb u a) (eqb v b) e))
-
-or-self : (b : Bool) → (b || b) ≡ b
-or-self true = refl
-or-self false = refl
 
 module _ (n : ℕ) where
   own-is-cell : (line : Line) → isRecord line ≡ true → isCell n (cellOf n line) line ≡ true
@@ -103,19 +94,19 @@ module _ (n : ℕ) where
   in-link a b u v p ord c = go (or-cases (eqb (a * n + b) (u * n + v)) (eqb (a * n + b) (v * n + u)) c)
     where
       go : (eqb (a * n + b) (u * n + v) ≡ true) ⊎ (eqb (a * n + b) (v * n + u) ≡ true) → ((a ≡ u) × (b ≡ v)) ⊎ ((a ≡ v) × (b ≡ u))
-      go (inl e) = inl (same-place n a b u v p (ord .1) (eqb-true _ _ e))
-      go (inr e) = inr (same-place n a b v u p (omega (arith, ord .0, ord .1)) (eqb-true _ _ e))
+      go (inl e) = inl (one-row-one-column n a b u v p (ord .1) (eqb-true _ _ e))
+      go (inr e) = inr (one-row-one-column n a b v u p (omega (arith, ord .0, ord .1)) (eqb-true _ _ e))
 
   -- no line that says something else fills it
   own-told : (line other : Line) → isRecord line ≡ true → Ordered n line → Ordered n other → isCell n (cellOf n line) other ≡ true → says line other ≡ true
   own-told NoRecord other is ord ord′ c = clash is refl
   own-told (Link a b) NoRecord is ord ord′ c = clash c refl
-  own-told (Link a b) (Hand v) is ord ord′ c = let s = same-place n a b v v (ord .1) ord′ (eqb-true _ _ c) in absurd (omega (arith, ord .0, s .0, s .1))
+  own-told (Link a b) (Hand v) is ord ord′ c = let s = one-row-one-column n a b v v (ord .1) ord′ (eqb-true _ _ c) in absurd (omega (arith, ord .0, s .0, s .1))
   own-told (Link a b) (Link u v) is ord ord′ c =
       ⊎-elim (λ s. and-both (eqb a u) (eqb b v) (eq-eqb a u (s .0)) (eq-eqb b v (s .1))) (λ s. absurd (omega (arith, ord .0, ord′ .0, s .0, s .1)))
       (in-link a b u v (ord .1) ord′ c)
   own-told (Hand a) NoRecord is ord ord′ c = clash c refl
-  own-told (Hand a) (Hand v) is ord ord′ c = eq-eqb a v (same-place n a a v v ord ord′ (eqb-true _ _ c) .0)
+  own-told (Hand a) (Hand v) is ord ord′ c = eq-eqb a v (one-row-one-column n a a v v ord ord′ (eqb-true _ _ c) .0)
   own-told (Hand a) (Link u v) is ord ord′ c =
       ⊎-elim (λ s. absurd (omega (arith, ord′ .0, s .0, s .1))) (λ s. absurd (omega (arith, ord′ .0, s .0, s .1))) (in-link a a u v ord ord′ c)
 

@@ -9,6 +9,7 @@ use lib.Dec.{eqb}
 use lib.ListN.{getD, set, length}
 use lib.Seq.{getD-set-same, getD-set-other}
 use borrow.Author.Tests.{lt-ltb, le-ltb}
+use Rattle.basics.proofs.Counting.{count-most}
 use Rattle.site.specs.Limits.{mostRadios}
 use Rattle.site.specs.Map.{Site, inHalf}
 use Rattle.tokens.specs.Rules.{Plan, Notes, Waiting, nobody, waits, searching, sends, message, rising, gets, tries, search, innerStep, nextPlace}
@@ -22,7 +23,6 @@ use Rattle.machine.specs.declared.Machine.{Machine}
 use Rattle.machine.specs.View.{marksOf, enteredOf, placeInOrder, tried, waitingOf, notesIn, stateIn, stackOf, stateOf}
 use Rattle.machine.specs.Sane.{Joined, DownToS, depth, Under, Sane}
 use Rattle.machine.specs.Step.{Made, WhileSeeking, Ready}
-use Rattle.machine.proofs.Room.{count-most}
 
 -- ---- the halves that wait
 

@@ -1,4 +1,4 @@
--- "Maps on both sides of each edge" of document 01, the last row as document 02 amends it: the ten rows proved together, and the case Q with k = 3 given whole.
+-- "Maps on both sides of each edge" of document 01, the last row as document 02 amends it: the ten rows proved together, three maps with handhelds, and the case Q with k = 3 given whole.
 use mathlib.Core.Path.{_≡_, refl}
 use mathlib.Core.Bool.{Bool, true, false}
 use mathlib.Core.List.{List, [], _∷_, map}

@@ -2,7 +2,7 @@
 use mathlib.Core.Path.{_≡_, refl, sym, ap, _∙_, subst}
 use mathlib.Core.Bool.{true, false}
 use mathlib.Core.List.{List, [], _∷_}
-use Prim.Native.Nat.{ℕ, zero, suc, min, _+_, _*_, _/_, _≤_, _<_}
+use Prim.Native.Nat.{ℕ, zero, suc, min, _+_, _*_, _≤_, _<_}
 use native.Mathlib.Decide.{ℕ-discrete, decLt}
 use native.Mathlib.Omega.{arith}
 use lib.ListN.{length, getD, set, length-set, List·getD-eq-default}
@@ -10,7 +10,7 @@ use lib.Seq.{getD-set-same, getD-set-other}
 use Rattle.basics.specs.Lists.{among, All}
 use Rattle.basics.proofs.Bools.{clash, not-true→false}
 use Rattle.basics.proofs.Lists.{all-follow}
-use Rattle.basics.proofs.Places.{row-of}
+use Rattle.basics.proofs.Places.{one-row-one-column}
 use Rattle.site.specs.Map.{Site, linked, handheld, linkedOn, passes}
 use Rattle.site.specs.Paths.{LeadsToT, Path, DisjointPaths, Largest}
 use Rattle.site.proofs.Steps.{passes-says, may-pass, linked-says}
@@ -38,9 +38,7 @@ module _ (n : ℕ) (table : List ℕ) where
   others-stay u v (suc w) below within differ = getD-set-other (ownCleared n table w) (w * n + w) (u * n + v) _ 0 apart ∙ others-stay u v w below (omega arith) differ
     where
       apart : u * n + v ≡ w * n + w → ⊥
-      apart e =
-          let row : u ≡ w = sym (row-of n u v below) ∙ ap (λ (x : ℕ). x / n) e ∙ row-of n w w (omega arith) in
-          differ (omega (arith, ap (λ (x : ℕ). x * n) row))
+      apart e = let s = one-row-one-column n u v w w below (omega arith) e in differ (s .0 ∙ sym (s .1))
 
   -- an own cell is 0
   own-zero : (v w : ℕ) → v < w → getD (ownCleared n table w) (v * n + v) 0 ≡ 0

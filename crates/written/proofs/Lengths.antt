@@ -11,7 +11,7 @@ use lib.ListN.{length, getD, length-append}
 use borrow.Author.Tests.{eq-eqb, ne-eqb, lt-ltb, le-ltb}
 use Rattle.basics.specs.Counting.{oneIf, sum, count}
 use Rattle.basics.specs.Lists.{All}
-use Rattle.basics.proofs.Counting.{sum-ext, sum-add, sum-one, sum-le, count-only}
+use Rattle.basics.proofs.Counting.{sum-ext, sum-add, count-most, count-only}
 use Rattle.site.specs.Limits.{mostRadios, mostLinks}
 use Rattle.site.specs.Map.{linked, links, handheld}
 use Rattle.captures.specs.Text.{mostNumber}
@@ -100,13 +100,6 @@ lines-number n table =
         ∙ sum-add (λ v. oneIf (ltb u v && linked table n u v)) (λ v. oneIf (eqb v u && handheld table n u)) n
         ∙ ap (λ (x : ℕ). above u + x) (count-only (handheld table n u) u n p)
 
-few-handhelds : (n : ℕ) (table : List ℕ) → count (handheld table n) n ≤ n
-few-handhelds n table = omega (arith, sum-le (λ v. oneIf (handheld table n v)) (λ v. 1) n (λ v p. at-most (handheld table n v)), sum-one n)
-  where
-    at-most : (b : Bool) → oneIf b ≤ 1
-    at-most true = omega arith
-    at-most false = omega arith
-
 -- ---- the lines are short
 
 net-length : (capture n S T k : ℕ) → capture ≤ mostNumber → n ≤ mostNumber → S ≤ mostNumber → T ≤ mostNumber → k ≤ mostNumber → length (netLine capture n S T k) ≤ 34
@@ -144,7 +137,7 @@ module _ (capture n S T k : ℕ) (table : List ℕ) (map : WritableMap n table) 
         net-length capture n S T k a (omega (arith, map .few-radios)) b c d,
         lines-length n (linesIn n table) (map .few-radios) (lines-ordered n table map),
         lines-number n table,
-        few-handhelds n table,
+        count-most (handheld table n) n,
       )
 
   pub text-fits : links table n ≤ mostLinks → length (captureText capture n S T k (linesIn n table)) ≤ mostBytes
