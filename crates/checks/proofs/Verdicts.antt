@@ -15,7 +15,7 @@ use Rattle.site.specs.Limits.{most_radios, most_links, most_paths}
 use Rattle.site.specs.Map.{Site, links, degree, passes, A}
 use Rattle.site.proofs.Formula.{Even, degrees_twice_links, steps_and_degrees, two_degrees, few_steps}
 use Rattle.site.proofs.Steps.{passes-outside}
-use Rattle.log.specs.Bytes.{message_bytes}
+use Rattle.message_log.specs.Bytes.{message_bytes}
 use Rattle.refusals.specs.Refusals.{Call, is_bad, finding, passed, no_size, map_verdict, pair_verdict, room_verdict, verdict, number}
 use Rattle.refusals.specs.declared.Finding.TheVariants.{Sound}
 use Rattle.refusals.specs.declared.Verdict.{Verdict}

@@ -298,7 +298,7 @@ pub fn judge_room(n: usize, k: usize, steps: usize, log: usize, paths: usize, cu
     ensures { result ≡ room_verdict n k steps log paths cut }
 {
     let most_messages = (2 * k + 1) * steps;
-    if log < log::MESSAGE_BYTES * most_messages {
+    if log < message_log::MESSAGE_BYTES * most_messages {
         return Verdict::Log;
     }
     if paths < n - 2 + 3 * k || cut < k {

@@ -25,7 +25,7 @@ use Rattle.routes.proofs.Split.{split_of}
 use Rattle.routes.proofs.Most.{largest}
 use Rattle.rounds.proofs.Shows.{Leads}
 use Rattle.demands.proofs.Rounds.{FullOrLost}
-use Rattle.log.specs.Last.{DonesLast}
+use Rattle.message_log.specs.Last.{DonesLast}
 use Rattle.demands.proofs.Opening.{led_found}
 use Rattle.demands.proofs.Tokens.{Orderly}
 use Rattle.demands.proofs.Whole.{CanStart, WholeRun, run_is, starts_searching, whole-run}

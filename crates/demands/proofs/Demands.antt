@@ -29,13 +29,13 @@ use Rattle.rounds.proofs.Shows.{Leads}
 use Rattle.rounds.proofs.Order.{Order}
 use Rattle.rounds.proofs.Depth.{round_played}
 use Rattle.outcome.specs.Leaves.{plan_of, run_of, paths_found, cut_found, outcome, log_left, paths_left, cut_left}
-use Rattle.log.specs.Bytes.{log_bytes}
+use Rattle.message_log.specs.Bytes.{log_bytes}
 use Rattle.path_lists.specs.Bytes.{path_bytes}
 use Rattle.buffers.specs.Zeros.{zeros_after}
 use Rattle.demands.specs.Demand2.{Demand2}
 use Rattle.demands.specs.Demand3.{Demand3}
-use Rattle.log.specs.Last.{DonesLast}
-use Rattle.log.proofs.Bytes.{log-length}
+use Rattle.message_log.specs.Last.{DonesLast}
+use Rattle.message_log.proofs.Bytes.{log-length}
 use Rattle.demands.proofs.Whole.{CanStart}
 use Rattle.demands.proofs.AnyStart.{Delivers, delivers, larger_budget}
 

@@ -13,7 +13,7 @@ use Rattle.tokens.specs.declared.Kind.{Kind}
 use Rattle.tokens.specs.declared.Kind.TheVariants.{Pdt, PdtB, Pmt, Done}
 use Rattle.tokens.specs.declared.Message.{Message}
 use Rattle.tokens.specs.Rules.{Marks, message}
-use Rattle.log.specs.Last.{DonesLast}
+use Rattle.message_log.specs.Last.{DonesLast}
 use Rattle.tokens.specs.Run.{Entry, done_over, heard, walked}
 use Rattle.menger.proofs.Trail.{follow}
 use Rattle.routes.proofs.Trails.{onward, trail_of, radios_of, path_of}

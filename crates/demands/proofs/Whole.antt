@@ -24,7 +24,7 @@ use Rattle.routes.proofs.Split.{split_of}
 use Rattle.routes.proofs.Starts.{starts_marked, starts_number, onward_marked}
 use Rattle.routes.proofs.Trails.{network_of, trail_of, starts, paths_from}
 use Rattle.rounds.proofs.Shows.{Leads, in_round, Plays}
-use Rattle.log.specs.Last.{DonesLast}
+use Rattle.message_log.specs.Last.{DonesLast}
 use Rattle.demands.proofs.Carried.{leads_on, in_round_length, dones_of, all_done, stands_at, AllCarried, all_carried}
 use Rattle.demands.proofs.Few.{dones_few}
 use Rattle.demands.proofs.Opening.{opens, release-carries, no_more_won}

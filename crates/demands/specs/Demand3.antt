@@ -9,7 +9,7 @@ use Rattle.tokens.specs.declared.Kind.TheVariants.{Pdt, PdtB, Pmt, Done}
 use Rattle.tokens.specs.Rules.{over, inner_step}
 use Rattle.tokens.specs.Run.{Entry}
 use Rattle.outcome.specs.Leaves.{plan_of, run_of, paths_found, cut_found, outcome}
-use Rattle.log.specs.Bytes.{message_bytes, log_bytes}
+use Rattle.message_log.specs.Bytes.{message_bytes, log_bytes}
 use Rattle.path_lists.specs.Bytes.{path_bytes}
 
 -- a discovery token, and the two replies to one

@@ -8,7 +8,7 @@ use Rattle.tokens.specs.Run.{run_on, walked, cut_item, item_of}
 use Rattle.outcome.specs.declared.Outcome.{Outcome}
 use Rattle.outcome.specs.Leaves.{run_of, paths_found, cut_found, outcome, log_left, paths_left, cut_left}
 use Rattle.path_lists.specs.Bytes.{path_bytes}
-use Rattle.log.specs.Bytes.{log_bytes}
+use Rattle.message_log.specs.Bytes.{log_bytes}
 use Rattle.buffers.specs.Zeros.{zeros_after}
 
 -- ---- a map given by its links; a handheld is linked to itself

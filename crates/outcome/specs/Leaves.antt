@@ -2,7 +2,7 @@
 use Rattle.std.specs.Prelude.{cond, List, [], ℕ, ltb, length}
 use Rattle.refusals.specs.Refusals.{Call, verdict, number, place_of, most_messages, if_accepted}
 use Rattle.buffers.specs.Zeros.{zeros_after}
-use Rattle.log.specs.Bytes.{log_bytes}
+use Rattle.message_log.specs.Bytes.{log_bytes}
 use Rattle.path_lists.specs.Bytes.{path_bytes}
 use Rattle.tokens.specs.Rules.{Plan, rising, unmarked, start}
 use Rattle.tokens.specs.Run.{Run, notes_of, run_from, paths_of, cut_of}

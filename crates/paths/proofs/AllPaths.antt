@@ -9,7 +9,7 @@ use Rattle.basics.specs.Lists.{All}
 use Rattle.site.specs.Limits.{most_radios}
 use Rattle.site.specs.Map.{Site, out_half, radio_of}
 use Rattle.tokens.specs.Run.{Entry, Walked, walked, paths_of}
-use Rattle.log.specs.Read.{raw_at}
+use Rattle.message_log.specs.Read.{raw_at}
 use Rattle.path_lists.specs.Bytes.{path_bytes}
 use Rattle.path_lists.proofs.Bytes.{path-bytes-append, one_path_bytes}
 use Rattle.paths.specs.declared.Walk.{Walk}

@@ -15,11 +15,11 @@ use Rattle.tokens.specs.Rules.{message}
 use Rattle.tokens.specs.Run.{Entry, Walked, reaches, heard, walked}
 use Rattle.tokens.specs.declared.Kind.{Kind}
 use Rattle.tokens.specs.declared.Kind.TheVariants.{Pdt, PdtB, Pmt, Done}
-use Rattle.log.specs.declared.RawMessage.{RawMessage}
-use Rattle.log.specs.Bytes.{kind_number, RoomFor}
-use Rattle.log.specs.Read.{raw_at, raw_of}
-use Rattle.log.specs.Last.{DonesLast}
-use Rattle.log.proofs.Read.{starts_room, read_at, only_done}
+use Rattle.message_log.specs.declared.RawMessage.{RawMessage}
+use Rattle.message_log.specs.Bytes.{kind_number, RoomFor}
+use Rattle.message_log.specs.Read.{raw_at, raw_of}
+use Rattle.message_log.specs.Last.{DonesLast}
+use Rattle.message_log.proofs.Read.{starts_room, read_at, only_done}
 use Rattle.paths.specs.Listing.{LogOf, Arrives}
 
 -- ---- what a message says of the paths

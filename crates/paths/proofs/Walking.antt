@@ -10,8 +10,8 @@ use lib.ListN.{length, get_or, set, drop, length-append, length-set, drop_of_len
 use lib.Seq.{drop-set-lt}
 use Rattle.site.specs.Map.{Site, out_half, radio_of}
 use Rattle.tokens.specs.Run.{Entry, Walked, reaches, walked}
-use Rattle.log.specs.declared.RawMessage.{RawMessage}
-use Rattle.log.specs.Read.{raw_at}
+use Rattle.message_log.specs.declared.RawMessage.{RawMessage}
+use Rattle.message_log.specs.Read.{raw_at}
 use Rattle.paths.specs.Listing.{LogOf, Arrives, NextArrival, Walks, PathLeft}
 use Rattle.buffers.proofs.Stores.{store_next}
 use Rattle.paths.proofs.Log.{arrived}

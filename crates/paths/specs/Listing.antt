@@ -5,10 +5,10 @@ use Rattle.site.specs.Limits.{most_radios}
 use Rattle.site.specs.Map.{Site, out_half}
 use Rattle.tokens.specs.declared.Kind.TheVariants.{Done}
 use Rattle.tokens.specs.Run.{Entry, walked, paths_of}
-use Rattle.log.specs.declared.RawMessage.{RawMessage}
-use Rattle.log.specs.Bytes.{kind_number, Starts}
-use Rattle.log.specs.Read.{raw_at}
-use Rattle.log.specs.Last.{DonesLast}
+use Rattle.message_log.specs.declared.RawMessage.{RawMessage}
+use Rattle.message_log.specs.Bytes.{kind_number, Starts}
+use Rattle.message_log.specs.Read.{raw_at}
+use Rattle.message_log.specs.Last.{DonesLast}
 use Rattle.path_lists.specs.Bytes.{path_bytes}
 use Rattle.paths.specs.declared.Walk.{Walk}
 use Rattle.paths.specs.declared.Listed.{Listed}

@@ -2,7 +2,7 @@
 ghost use Rattle.std.specs.Prelude.{List, ◌≤◌};
 ghost use Rattle.site.specs.Map.{Site};
 ghost use Rattle.tokens.specs.Run.{Entry};
-ghost use Rattle.log.specs.Bytes.{RoomFor};
+ghost use Rattle.message_log.specs.Bytes.{RoomFor};
 ghost use Rattle.paths.specs.Listing.{LogOf, Listable, PathsLeft, FirstDone, NextArrival, Startable, WalkEnded};
 
 // How far the writer of one path came: the first message after the path, and the bytes that the path took.
@@ -27,8 +27,8 @@ fn first_done(log: &[u8], messages: usize) -> usize
 {
     let mut at = messages;
     while at > 0 {
-        let last = log::message_at(log, at - 1);
-        if !log::is_done(last.kind) {
+        let last = message_log::message_at(log, at - 1);
+        if !message_log::is_done(last.kind) {
             return at;
         }
         at -= 1;
@@ -43,8 +43,8 @@ fn next_arrival(log: &[u8], from: usize, messages: usize) -> usize
     ensures { NextArrival log.now from messages result }
 {
     for at in from..messages {
-        let heard = log::message_at(log, at);
-        if log::is_done(heard.kind) && heard.to % 2 == 0 {
+        let heard = message_log::message_at(log, at);
+        if message_log::is_done(heard.kind) && heard.to % 2 == 0 {
             return at;
         }
     }
@@ -57,13 +57,13 @@ fn write_path(rest: &mut [u8], log: &[u8], at: usize, messages: usize, s: usize)
     requires { Startable log.now at messages s rest.old }
     ensures { WalkEnded log.now at messages s rest.old rest.new result }
 {
-    let first = log::message_at(log, at);
+    let first = message_log::message_at(log, at);
     rest[1] = s as u8;
     rest[2] = first.to / 2;
     let mut used = 3;
     let mut next = next_arrival(log, at + 1, messages);
     while next < messages {
-        let heard = log::message_at(log, next);
+        let heard = message_log::message_at(log, next);
         if heard.from as usize == 2 * s + 1 {
             break;
         }
@@ -86,7 +86,7 @@ pub fn write_paths(log: &[u8], messages: usize, s: usize, paths: &mut [u8]) -> L
     // All DONEs stand at the log's end.
     let mut at = next_arrival(log, first_done(log, messages), messages);
     while at < messages {
-        let heard = log::message_at(log, at);
+        let heard = message_log::message_at(log, at);
         // Before S sends its first DONE no path is under way.
         if heard.from as usize != 2 * s + 1 {
             at = next_arrival(log, at + 1, messages);

@@ -14,7 +14,7 @@ use Rattle.tokens.specs.Run.{run_on, walked, cut_item, item_of}
 use Rattle.outcome.specs.declared.Outcome.{Outcome}
 use Rattle.outcome.specs.Leaves.{run_of, paths_found, cut_found, outcome, log_left, paths_left, cut_left}
 use Rattle.path_lists.specs.Bytes.{path_bytes}
-use Rattle.log.specs.Bytes.{message_bytes, log_bytes}
+use Rattle.message_log.specs.Bytes.{message_bytes, log_bytes}
 use Rattle.demands.specs.Promise.{Promise}
 
 -- two radios that are linked, and two that are not; one path is wanted, and the buffers are 12, 3 and 1 bytes long

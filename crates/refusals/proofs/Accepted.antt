@@ -17,7 +17,7 @@ use Rattle.site.specs.Limits.{most_radios, most_links, most_paths}
 use Rattle.site.specs.Map.{linked, links, A}
 use Rattle.site.proofs.Formula.{Even}
 use Rattle.site.proofs.Valid.{Valid}
-use Rattle.log.specs.Bytes.{message_bytes}
+use Rattle.message_log.specs.Bytes.{message_bytes}
 use Rattle.refusals.specs.Refusals.{Call, no_size, finding, log_needs, paths_need, verdict, number}
 use Rattle.refusals.specs.Conditions.{Fault, mirror, cell_conditions, map_conditions, pair_conditions, room_conditions}
 use Rattle.refusals.specs.declared.Finding.TheVariants.{Sound}

@@ -3,7 +3,7 @@ use Rattle.std.specs.Prelude.{◌≡◌, Bool, ◌||◌, List, [], ◌∷◌, �
 use Rattle.basics.specs.Numbered.{Conditions, Gives}
 use Rattle.site.specs.Limits.{most_radios, most_links, most_paths}
 use Rattle.site.specs.Map.{links, A}
-use Rattle.log.specs.Bytes.{message_bytes}
+use Rattle.message_log.specs.Bytes.{message_bytes}
 use Rattle.refusals.specs.Refusals.{Call}
 
 -- ---- 3 and 13: the kinds of fault

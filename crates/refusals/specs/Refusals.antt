@@ -3,7 +3,7 @@ use Rattle.std.specs.Prelude.{Bool, true, false, not, ◌||◌, cond, List, ℕ,
 use Rattle.basics.specs.Counting.{first_from}
 use Rattle.site.specs.Limits.{most_radios, most_links, most_paths}
 use Rattle.site.specs.Map.{Site, links, A}
-use Rattle.log.specs.Bytes.{message_bytes}
+use Rattle.message_log.specs.Bytes.{message_bytes}
 use Rattle.refusals.specs.declared.Finding.{Finding}
 use Rattle.refusals.specs.declared.Finding.TheVariants.{Sound, Value, Mirror}
 use Rattle.refusals.specs.declared.Verdict.{Verdict}

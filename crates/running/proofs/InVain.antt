@@ -20,8 +20,8 @@ use Rattle.tokens.specs.Run.{notes_of}
 use Rattle.tokens.specs.declared.Kind.{Kind}
 use Rattle.tokens.specs.declared.Kind.TheVariants.{Pdt, PdtB}
 use Rattle.tokens.specs.declared.Message.{Message}
-use Rattle.log.specs.Bytes.{RoomFor}
-use Rattle.log.specs.Put.{Writable, Appends}
+use Rattle.message_log.specs.Bytes.{RoomFor}
+use Rattle.message_log.specs.Put.{Writable, Appends}
 use Rattle.openings.specs.Rows.{across}
 use Rattle.openings.proofs.Walks.{from_out}
 use Rattle.openings.proofs.Order.{next_other}

@@ -12,9 +12,9 @@ use Rattle.tokens.specs.declared.Answer.{Answer}
 use Rattle.tokens.specs.declared.Answer.TheVariants.{Sent, End}
 use Rattle.tokens.specs.Rules.{Plan, Notes, Waiting, State, won, sends, over, inner_step}
 use Rattle.tokens.specs.Run.{Entry, notes_of, logged, run_on, run_from}
-use Rattle.log.specs.Bytes.{RoomFor, log_bytes}
-use Rattle.log.specs.Put.{Writable, Appends}
-use Rattle.log.proofs.Bytes.{filled_length}
+use Rattle.message_log.specs.Bytes.{RoomFor, log_bytes}
+use Rattle.message_log.specs.Put.{Writable, Appends}
+use Rattle.message_log.proofs.Bytes.{filled_length}
 use Rattle.machine.specs.declared.Task.{Task}
 use Rattle.machine.specs.declared.Stage.{Stage}
 use Rattle.machine.specs.declared.Stage.TheVariants.{Searching, Declining, Granting, Won, Carrying}

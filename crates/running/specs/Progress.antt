@@ -2,7 +2,7 @@
 use Rattle.std.specs.Prelude.{◌≡◌, List, ◌++◌, ℕ, ◌-◌, ◌≤◌, ◌<◌, length}
 use Rattle.tokens.specs.Rules.{Plan}
 use Rattle.tokens.specs.Run.{Entry, Run, run_from}
-use Rattle.log.specs.Bytes.{Filled, RoomFor}
+use Rattle.message_log.specs.Bytes.{Filled, RoomFor}
 use Rattle.machine.specs.declared.Task.{Task}
 use Rattle.machine.specs.declared.Machine.{Machine}
 use Rattle.machine.specs.View.{state_of}

@@ -1,7 +1,7 @@
 // The run that fills the log: the inner steps one after another, until the run is over or the budget is spent.
 ghost use Rattle.tokens.specs.Rules.{Plan, start};
 ghost use Rattle.tokens.specs.Run.{run_from};
-ghost use Rattle.log.specs.Bytes.{RoomFor};
+ghost use Rattle.message_log.specs.Bytes.{RoomFor};
 ghost use Rattle.machine.specs.declared.Task.{Task};
 ghost use Rattle.machine.specs.View.{state_of, with_left};
 ghost use Rattle.machine.specs.Step.{Ready};
@@ -51,8 +51,8 @@ fn asks_in_vain(m: Machine, budget: usize, sent: usize, entered: &[u8; 128], log
         if !halves::is_entered(entered, 2 * v) {
             break;
         }
-        log::put(log, at, tokens::telling(Kind::Pdt, h, 2 * v), m.round);
-        log::put(log, at + 1, tokens::telling(Kind::PdtB, 2 * v, h), m.round);
+        message_log::put(log, at, tokens::telling(Kind::Pdt, h, 2 * v), m.round);
+        message_log::put(log, at + 1, tokens::telling(Kind::PdtB, 2 * v, h), m.round);
         others = radios::without_first(others, v);
         at += 2;
     }
@@ -91,7 +91,7 @@ fn run_on(
             break;
         };
         machine = stepped.machine;
-        log::put(log, sent, message, machine.round);
+        message_log::put(log, sent, message, machine.round);
         sent += 1;
     }
     Ran {

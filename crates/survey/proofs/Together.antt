@@ -16,9 +16,9 @@ use Rattle.refusals.specs.Refusals.{Call, most_messages, verdict, number}
 use Rattle.refusals.proofs.Accepted.{Room, accepted_valid, accepted_room}
 use Rattle.tokens.specs.Rules.{Plan, start}
 use Rattle.tokens.specs.Run.{Entry, notes_of, run_from, cut_of}
-use Rattle.log.specs.Bytes.{message_bytes, log_bytes}
-use Rattle.log.proofs.Bytes.{log-length}
-use Rattle.log.proofs.Read.{filled_starts}
+use Rattle.message_log.specs.Bytes.{message_bytes, log_bytes}
+use Rattle.message_log.proofs.Bytes.{log-length}
+use Rattle.message_log.proofs.Read.{filled_starts}
 use Rattle.path_lists.specs.Bytes.{path_bytes, Holds}
 use Rattle.path_lists.proofs.Walking.{holds_front}
 use Rattle.buffers.specs.Zeros.{zeros_after}

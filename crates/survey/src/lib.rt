@@ -63,14 +63,14 @@ fn accepted(
     let mut entered = buffers::no_bytes();
     let ran = running::run(
         task,
-        log.len() / log::MESSAGE_BYTES,
+        log.len() / message_log::MESSAGE_BYTES,
         links,
         &mut entered,
         log,
     );
     let listed = paths::write_paths(log, ran.messages, task.s, paths);
     leave_cut(task, paths, listed.paths, &entered, cut);
-    buffers::clear_from(log, log::MESSAGE_BYTES * ran.messages);
+    buffers::clear_from(log, message_log::MESSAGE_BYTES * ran.messages);
     buffers::clear_from(paths, listed.used);
     Outcome {
         refusal: 0,

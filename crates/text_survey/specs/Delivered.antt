@@ -2,7 +2,7 @@
 use Rattle.std.specs.Prelude.{◌≡◌, List, [], ℕ, ◌*◌, ◌≤◌, length}
 use Rattle.buffers.specs.Zeros.{zeros_after}
 use Rattle.site.specs.Limits.{most_radios, most_paths}
-use Rattle.log.specs.Bytes.{message_bytes}
+use Rattle.message_log.specs.Bytes.{message_bytes}
 use Rattle.path_lists.specs.Bytes.{path_bytes}
 use Rattle.captures.specs.Text.{most_number}
 use Rattle.text_survey.specs.declared.FirstLine.{FirstLine}

@@ -5,7 +5,7 @@ use Prim.Native.Nat.{ℕ, ◌-◌, ◌≤◌, ◌<◌}
 use native.Mathlib.Omega.{arith}
 use native.Mathlib.Decide.{dec_lt}
 use borrow.Author.Tests.{not-true, not-false}
-use Rattle.log.specs.Read.{raw_at}
+use Rattle.message_log.specs.Read.{raw_at}
 use Rattle.paths.proofs.Log.{DoneAt, is-done, is_other}
 use Rattle.paths.proofs.first_done.Statement.{statement}
 use Rattle.paths.proofs.first_done.Tie as tie

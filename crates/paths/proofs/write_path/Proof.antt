@@ -7,8 +7,8 @@ use native.Mathlib.Omega.{arith}
 use lib.ListN.{length, length-set}
 use Rattle.site.specs.Map.{Site, radio_of}
 use Rattle.tokens.specs.Run.{Entry}
-use Rattle.log.specs.Bytes.{RoomFor}
-use Rattle.log.specs.Read.{raw_at}
+use Rattle.message_log.specs.Bytes.{RoomFor}
+use Rattle.message_log.specs.Read.{raw_at}
 use Rattle.paths.specs.Listing.{Arrives, Walks, Startable}
 use Rattle.paths.proofs.Log.{log_room, from_is}
 use Rattle.paths.proofs.Walking.{path-begun, begun-length, UnderWay, two_fit, under_begun, so_far_fits, one_fits, one_more, path_ends, path-left}

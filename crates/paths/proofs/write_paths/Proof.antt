@@ -7,7 +7,7 @@ use borrow.Rule.Slice.PartMut.{same_len_mid}
 use lib.ListN.{length, drop, length-drop}
 use Rattle.site.specs.Map.{Site, out_half}
 use Rattle.tokens.specs.Run.{Entry}
-use Rattle.log.specs.Read.{raw_at}
+use Rattle.message_log.specs.Read.{raw_at}
 use Rattle.paths.specs.Listing.{LogOf, Arrives, Startable}
 use Rattle.paths.proofs.Log.{log_room, from_is}
 use Rattle.paths.proofs.AllPaths.{first_arrival, Halfway, none_listed, walks_here, none_starts, can_start, one_more_path, all_listed}

@@ -5,7 +5,7 @@ use Prim.Native.Nat.{ℕ, zero, suc, ◌*◌, ◌≤◌}
 use native.Mathlib.Omega.{arith}
 use lib.ListN.{length, drop, length-append, length-drop}
 use Rattle.tokens.specs.Run.{Entry}
-use Rattle.log.specs.Bytes.{kind_number, message_bytes, log_bytes, Filled}
+use Rattle.message_log.specs.Bytes.{kind_number, message_bytes, log_bytes, Filled}
 
 pub log-length : (entries : List Entry) → length (log_bytes entries) ≡ message_bytes * length entries
 unfolding log_bytes

@@ -1,9 +1,9 @@
 // The log: four bytes a message, written and read here alone.
 ghost use Rattle.std.specs.Prelude.{◌≡◌, suc, eqb};
 ghost use Rattle.tokens.specs.declared.Kind.TheVariants.{Done};
-ghost use Rattle.log.specs.Bytes.{kind_number, RoomFor};
-ghost use Rattle.log.specs.Put.{Writable, Appends};
-ghost use Rattle.log.specs.Read.{raw_at};
+ghost use Rattle.message_log.specs.Bytes.{kind_number, RoomFor};
+ghost use Rattle.message_log.specs.Put.{Writable, Appends};
+ghost use Rattle.message_log.specs.Read.{raw_at};
 
 use tokens::{Kind, Message};
 

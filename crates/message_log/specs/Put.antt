@@ -2,7 +2,7 @@
 use Rattle.std.specs.Prelude.{◌≡◌, List, [], ◌∷◌, ◌++◌, ℕ, suc, ◌<◌, length}
 use Rattle.tokens.specs.declared.Message.{Message}
 use Rattle.tokens.specs.Run.{Entry}
-use Rattle.log.specs.Bytes.{Filled, RoomFor}
+use Rattle.message_log.specs.Bytes.{Filled, RoomFor}
 
 -- there is room for message number `at`, and its numbers are bytes
 pub record Writable (log : List ℕ) (at : ℕ) (message : Message) (round : ℕ) : Type 0 where

@@ -5,9 +5,9 @@ use Prim.Native.Nat.{ℕ, zero, suc, ◌+◌, ◌*◌, ◌≤◌}
 use native.Mathlib.Omega.{arith}
 use lib.ListN.{length, set, drop, length-append, length-drop, length-set}
 use Rattle.tokens.specs.Run.{Entry}
-use Rattle.log.specs.Bytes.{kind_number, message_bytes, log_bytes, Filled}
-use Rattle.log.specs.Put.{Appends}
-use Rattle.log.proofs.Bytes.{log-length, log_append}
+use Rattle.message_log.specs.Bytes.{kind_number, message_bytes, log_bytes, Filled}
+use Rattle.message_log.specs.Put.{Appends}
+use Rattle.message_log.proofs.Bytes.{log-length, log_append}
 
 -- the log with a message's four bytes from this place on
 abbrev pub stored : List ℕ → ℕ → Entry → List ℕ

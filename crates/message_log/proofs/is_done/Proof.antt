@@ -2,8 +2,8 @@
 use mathlib.Core.Path.{ap}
 use lib.Dec.{eqb}
 use borrow.Author.Rules.{rules}
-use Rattle.log.proofs.is_done.Statement.{statement}
-use Rattle.log.proofs.is_done.Tie as tie
+use Rattle.message_log.proofs.is_done.Statement.{statement}
+use Rattle.message_log.proofs.is_done.Tie as tie
 
 abbrev past : (P : Type 0) → P → P
 past P p = p

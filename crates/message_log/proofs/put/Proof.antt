@@ -2,9 +2,9 @@
 use native.Mathlib.Omega.{arith}
 use lib.ListN.{length-set}
 use borrow.Author.Rules.{rules}
-use Rattle.log.proofs.Stores.{stored_appends}
-use Rattle.log.proofs.put.Statement.{statement}
-use Rattle.log.proofs.put.Tie as tie
+use Rattle.message_log.proofs.Stores.{stored_appends}
+use Rattle.message_log.proofs.put.Statement.{statement}
+use Rattle.message_log.proofs.put.Tie as tie
 
 abbrev past : (P : Type 0) → P → P
 past P p = p

@@ -9,9 +9,9 @@ use lib.Seq.{get_or-take, get_or-drop, drop-cons, take_at}
 use Rattle.tokens.specs.declared.Kind.{Kind}
 use Rattle.tokens.specs.declared.Kind.TheVariants.{Pdt, PdtB, Pmt, Done}
 use Rattle.tokens.specs.Run.{Entry}
-use Rattle.log.specs.Bytes.{kind_number, message_bytes, log_bytes, Filled, Starts, RoomFor}
-use Rattle.log.specs.Read.{raw_at, raw_of}
-use Rattle.log.proofs.Bytes.{log-length, log_from}
+use Rattle.message_log.specs.Bytes.{kind_number, message_bytes, log_bytes, Filled, Starts, RoomFor}
+use Rattle.message_log.specs.Read.{raw_at, raw_of}
+use Rattle.message_log.proofs.Bytes.{log-length, log_from}
 
 -- a log that is filled with messages starts with them
 pub filled_starts : (entries : List Entry) (before log : List ℕ) → Filled entries before log → Starts entries log

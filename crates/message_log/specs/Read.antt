@@ -1,8 +1,8 @@
 -- The contract of the log's reader: the bytes of one message.
 use Rattle.std.specs.Prelude.{List, ℕ, ◌+◌, ◌*◌, get_or}
 use Rattle.tokens.specs.Run.{Entry}
-use Rattle.log.specs.Bytes.{kind_number, message_bytes}
-use Rattle.log.specs.declared.RawMessage.{RawMessage}
+use Rattle.message_log.specs.Bytes.{kind_number, message_bytes}
+use Rattle.message_log.specs.declared.RawMessage.{RawMessage}
 
 -- the bytes of message number `at`
 abbrev pub raw_at : List ℕ → ℕ → RawMessage
