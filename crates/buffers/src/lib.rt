@@ -1,4 +1,6 @@
 // Buffers that are lent for results, and blank arrays.
+#![tactic(auto)]
+
 ghost use Rattle.std.specs.Prelude.{◌≡◌, ◌++◌, ◌-◌, ◌≤◌, length, take, replicate};
 
 // Every byte from this place on becomes 0, and those before it stay.

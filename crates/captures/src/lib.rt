@@ -1,4 +1,6 @@
 // One capture read from a text: its lines, fields and numbers.
+#![tactic(auto)]
+
 ghost use Rattle.std.specs.Prelude.{◌≡◌, ◌≤◌, length};
 ghost use Rattle.captures.specs.Text.{same, number_of};
 ghost use Rattle.captures.specs.Capture.{head_of, line_of};
@@ -14,7 +16,7 @@ pub const LINE_FEED: u8 = b'\n';
 const MOST_NUMBER: usize = 65535;
 
 // What the first line of a capture says, if it has the right shape: capture number, radios, the two ends, paths wanted.
-#[derive(Drop)]
+#[derive(Clone, Copy)]
 pub enum Head {
     Net {
         capture: usize,
@@ -27,7 +29,7 @@ pub enum Head {
 }
 
 // What any other line says, if it has the right shape: a link between two radios, or a radio that is a handheld.
-#[derive(Drop)]
+#[derive(Clone, Copy)]
 pub enum Line {
     Link(usize, usize),
     Hand(usize),
@@ -35,14 +37,14 @@ pub enum Line {
 }
 
 // What a field says as a number.
-#[derive(Drop)]
+#[derive(Clone, Copy)]
 pub enum Number {
     Is(usize),
     NoNumber,
 }
 
 // What a field of a line holds: its number, and where the next field starts, which is past the line's end if this is the last.
-#[derive(Drop)]
+#[derive(Clone, Copy)]
 enum Field {
     Reads(usize, usize),
     NoField,

@@ -1,4 +1,6 @@
 // The checks before a run: the table with its links as sets of radios, the number of steps, and the refusals of a call.
+#![tactic(auto)]
+
 ghost use Rattle.std.specs.Prelude.{◌≡◌, true, ◌&&◌, ◌||◌, ◌↔◌, ℕ, ◌+◌, ◌*◌, ◌/◌, ◌≤◌, ◌<◌, max, eqb, ltb, length, get_or};
 ghost use Rattle.basics.specs.Counting.{one_if, sum};
 ghost use Rattle.radios.specs.Bytes.{Bits, is_one};
@@ -235,7 +237,7 @@ fn steps(rows: &[u64; 64], total: usize, passing: u64, s: usize, t: usize) -> us
 
 // What the checks of a map answer: the verdict on it, and for an accepted map twice the number of its links, and its radios
 // that are no handhelds.
-#[derive(Drop)]
+#[derive(Clone, Copy)]
 pub struct MapAnswer {
     pub verdict: Verdict,
     pub total: usize,
@@ -308,7 +310,7 @@ pub fn judge_room(n: usize, k: usize, steps: usize, log: usize, paths: usize, cu
 }
 
 // What the checks of a call answer: the verdict on it, and for an accepted call the radios that may stand inside a path.
-#[derive(Drop)]
+#[derive(Clone, Copy)]
 pub struct CallAnswer {
     pub verdict: Verdict,
     pub passing: u64,

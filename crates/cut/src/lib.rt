@@ -1,4 +1,6 @@
 // The cut list that a run leaves: one item for each path, where it leaves the entered halves.
+#![tactic(auto)]
+
 ghost use Rattle.std.specs.Prelude.{◌≡◌, List, ◌++◌, ℕ, eqb, drop};
 ghost use Rattle.site.specs.Map.{Site};
 ghost use Rattle.tokens.specs.Run.{at_link, item_of, cut_of};

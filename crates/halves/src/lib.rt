@@ -1,4 +1,6 @@
 // The halves of a map that are entered, as bytes that the caller lends: these three functions alone know how they are kept.
+#![tactic(auto)]
+
 ghost use Rattle.std.specs.Prelude.{◌≡◌, ◌||◌, ◌*◌, ◌<◌, eqb};
 ghost use Rattle.site.specs.Limits.{most_radios};
 ghost use Rattle.halves.specs.Bytes.{entered_of};

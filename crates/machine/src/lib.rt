@@ -1,4 +1,6 @@
 // One inner step of the token rules, on sets of radios and bytes that the caller lends.
+#![tactic(auto)]
+
 ghost use Rattle.std.specs.Prelude.{◌≡◌, false, List, ℕ, ◌+◌, ◌*◌, ◌≤◌, ◌<◌};
 ghost use Rattle.site.specs.Limits.{most_radios};
 ghost use Rattle.site.specs.Map.{Site};
@@ -10,7 +12,7 @@ ghost use Rattle.machine.specs.Step.{Fits, Made, TopUntried, Agrees, Ready, Step
 use tokens::{Answer, Kind};
 
 // The numbers of a survey: radios, the two ends, the paths wanted, and the set of the radios that may stand inside a path.
-#[derive(Drop)]
+#[derive(Clone, Copy)]
 pub struct Task {
     pub n: usize,
     pub s: usize,
@@ -20,7 +22,7 @@ pub struct Task {
 }
 
 // What happens next, as the definition's states have it.
-#[derive(Drop)]
+#[derive(Clone, Copy)]
 pub enum Stage {
     Searching,
     Declining,
@@ -32,7 +34,7 @@ pub enum Stage {
 // Where the machine stands: the half on top, the half that owes it a reply, the radios that it has not tried, how many halves
 // wait below it, the rounds started and the paths found. Carrying: the half that DONE has come to, and the radio that S sent
 // it to.
-#[derive(Drop)]
+#[derive(Clone, Copy)]
 pub struct Machine {
     pub stage: Stage,
     pub half: usize,
@@ -44,7 +46,7 @@ pub struct Machine {
 }
 
 // The answer of one inner step, and where the machine stands after it.
-#[derive(Drop)]
+#[derive(Clone, Copy)]
 pub struct Stepped {
     pub answer: Answer,
     pub machine: Machine,

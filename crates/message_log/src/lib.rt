@@ -1,4 +1,6 @@
 // The log: four bytes a message, written and read here alone.
+#![tactic(auto)]
+
 ghost use Rattle.std.specs.Prelude.{◌≡◌, suc, eqb};
 ghost use Rattle.tokens.specs.declared.Kind.TheVariants.{Done};
 ghost use Rattle.message_log.specs.Bytes.{kind_number, RoomFor};
@@ -11,7 +13,7 @@ use tokens::{Kind, Message};
 pub const MESSAGE_BYTES: usize = 4;
 
 // A message as its bytes stand in the log. The kind is a byte: a log from elsewhere may hold any.
-#[derive(Drop)]
+#[derive(Clone, Copy)]
 pub struct RawMessage {
     pub kind: u8,
     pub round: u8,

@@ -1,5 +1,7 @@
 // The path list: for each path its number of radios, then the radios. Whoever walks a list reads it here, and a list from elsewhere
 // is judged here.
+#![tactic(auto)]
+
 ghost use Rattle.std.specs.Prelude.{◌≡◌, false, ◌&&◌, List, [], ◌∷◌, ℕ, ◌≤◌, ◌<◌, leb, length};
 ghost use Rattle.site.specs.Limits.{most_radios};
 ghost use Rattle.path_lists.specs.Reading.{part_at, Inside, readable, paths_read};
@@ -7,7 +9,7 @@ ghost use Rattle.path_lists.specs.Judge.{joins, sound_after, is_sound};
 ghost use Rattle.path_lists.specs.Seen.{IsSet, InnerSeen, PathSeen};
 
 // Where the radios of one path stand in a list: from `start` up to `end`, and the next path stands at `end`.
-#[derive(Drop)]
+#[derive(Clone, Copy)]
 pub struct Part {
     pub start: usize,
     pub end: usize,
@@ -37,7 +39,7 @@ pub fn is_whole(list: &[u8], at: usize) -> bool
 
 // What the judge has seen of a list: whether all is in order so far, whether a path took the direct link, and the radios that
 // may stand inside no further path.
-#[derive(Drop)]
+#[derive(Clone, Copy)]
 struct Seen {
     fine: bool,
     direct: bool,

@@ -1,4 +1,6 @@
 // The path list that a run leaves: the paths that DONE walked, read off the log.
+#![tactic(auto)]
+
 ghost use Rattle.std.specs.Prelude.{List, ◌≤◌};
 ghost use Rattle.site.specs.Map.{Site};
 ghost use Rattle.tokens.specs.Run.{Entry};
@@ -6,14 +8,14 @@ ghost use Rattle.message_log.specs.Bytes.{RoomFor};
 ghost use Rattle.paths.specs.Listing.{LogOf, Listable, PathsLeft, FirstDone, NextArrival, Startable, WalkEnded};
 
 // How far the writer of one path came: the first message after the path, and the bytes that the path took.
-#[derive(Drop)]
+#[derive(Clone, Copy)]
 struct Walk {
     next: usize,
     used: usize,
 }
 
 // What the path list holds: its used bytes, and the number of paths.
-#[derive(Drop)]
+#[derive(Clone, Copy)]
 pub struct Listed {
     pub used: usize,
     pub paths: usize,

@@ -1,4 +1,6 @@
 // Sets of radios. A radio is a number below 64; a set of them is a u64, whose binary digit i says whether radio i is in it.
+#![tactic(auto)]
+
 ghost use Rattle.std.specs.Prelude.{◌≡◌, not, cond, ◌&&◌, ◌||◌, ℕ, ◌+◌, ◌-◌, ◌*◌, ◌^◌, ◌≤◌, ◌<◌, eqb, ltb, leb, length};
 ghost use Rattle.basics.specs.Counting.{First, count};
 ghost use Rattle.radios.specs.Bytes.{Bits, is_one, spaced};

@@ -1,4 +1,6 @@
 // The words that the check of a call answers with, and their numbers. The definitions are in specs/.
+#![tactic(auto)]
+
 ghost use Rattle.std.specs.Prelude.{◌≡◌};
 ghost use Rattle.refusals.specs.Refusals.{is_bad, number, place_of, passed, too_few, too_many};
 
@@ -7,7 +9,7 @@ const FEWEST_RADIOS: usize = 2;
 
 // What the check of the table finds: no fault, or what is wrong with the first bad cell in row order, and its place. It is not
 // 0 or 1, or it differs from its mirror cell.
-#[derive(Drop)]
+#[derive(Clone, Copy)]
 pub enum Finding {
     Sound,
     Value(usize),
@@ -15,7 +17,7 @@ pub enum Finding {
 }
 
 // What a call is told before any token is sent: accepted, or the first reason against it, in the order of the documents.
-#[derive(Drop)]
+#[derive(Clone, Copy)]
 pub enum Verdict {
     Accepted,
     Radios,

@@ -1,6 +1,8 @@
 // A route record for every radio, in a list that the caller lends. The covered core reads the path list: `refusal_of` judges it, and
 // `fields_of` computes the fields of all radios first. `set_route`, `fill` and `fog_routes` have a `&mut [Route]`: they are thin, and
 // proved by hand.
+#![tactic(auto)]
+
 ghost use Rattle.std.specs.Prelude.{◌≡◌, ◌++◌, ◌+◌, ◌*◌, ◌≤◌, ◌<◌, length, set, drop};
 ghost use Rattle.basics.specs.Lists.{All, Different};
 ghost use Rattle.site.specs.Limits.{most_radios, most_paths};
@@ -18,7 +20,7 @@ const RECORD_FIELDS: usize = 4;
 const MOST_FIELDS: usize = RECORD_FIELDS * site::MOST_RADIOS;
 
 // What a radio is to the paths.
-#[derive(Drop)]
+#[derive(Clone, Copy)]
 pub enum Role {
     OffPaths,
     OnPath,
@@ -28,7 +30,7 @@ pub enum Role {
 
 // What a fitter loads into one radio: its role, the number of its path, the radio before it and the radio after.
 #[repr(C)]
-#[derive(Drop)]
+#[derive(Clone, Copy)]
 pub struct Route {
     pub role: u8,
     pub path: u8,

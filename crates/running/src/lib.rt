@@ -1,4 +1,6 @@
 // The run that fills the log: the inner steps one after another, until the run is over or the budget is spent.
+#![tactic(auto)]
+
 ghost use Rattle.tokens.specs.Rules.{Plan, start};
 ghost use Rattle.tokens.specs.Run.{run_from};
 ghost use Rattle.message_log.specs.Bytes.{RoomFor};
@@ -12,7 +14,7 @@ use machine::{Machine, Stage, Task};
 use tokens::{Answer, Kind};
 
 // What a run came to: the rounds started, the paths found, and the messages sent.
-#[derive(Drop)]
+#[derive(Clone, Copy)]
 pub struct Ran {
     pub rounds: usize,
     pub found: usize,
@@ -20,7 +22,7 @@ pub struct Ran {
 }
 
 // What the half on top has left once it has asked in vain, and the messages sent.
-#[derive(Drop)]
+#[derive(Clone, Copy)]
 struct Vain {
     left: u64,
     sent: usize,

@@ -1,4 +1,6 @@
 // The lines of a sheet. Each writer appends to a lent buffer at its used length and answers the new used length.
+#![tactic(auto)]
+
 ghost use Rattle.std.specs.Prelude.{◌≡◌, cond, List, ◌∷◌, [], ℕ, ◌+◌, ◌≤◌, length, take};
 ghost use Rattle.path_lists.specs.Bytes.{Holds};
 ghost use Rattle.captures.specs.Words.{full, short};

@@ -1,4 +1,6 @@
 // One sheet written from the text of one capture.
+#![tactic(auto)]
+
 ghost use Rattle.std.specs.Prelude.{◌≡◌, ◌≤◌, length};
 ghost use Rattle.buffers.specs.Zeros.{zeros_after};
 ghost use Rattle.sheet_lines.specs.Written.{Written};

@@ -1,4 +1,6 @@
 // What several parts of the code share: the limits of document 01, and where a cell stands. The definitions are in specs/.
+#![tactic(auto)]
+
 ghost use Rattle.std.specs.Prelude.{◌≡◌, ◌+◌, ◌*◌, ◌≤◌, ◌<◌};
 ghost use Rattle.site.specs.Limits.{most_radios};
 

@@ -1,4 +1,6 @@
 // The survey: one public call that finds the disjoint paths of a site, or says why not, and leaves nothing of what was there.
+#![tactic(auto)]
+
 ghost use Rattle.std.specs.Prelude.{◌≡◌, cond, List, [], ℕ, length, replicate, ltb};
 ghost use Rattle.site.specs.Map.{Site};
 ghost use Rattle.refusals.specs.Refusals.{call_of, number, place_of};

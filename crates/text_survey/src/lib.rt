@@ -1,4 +1,6 @@
 // From the text of a capture to its numbers and lists, or to its refusal.
+#![tactic(auto)]
+
 ghost use Rattle.std.specs.Prelude.{◌≡◌, ◌*◌, ◌≤◌, length, replicate};
 ghost use Rattle.site.specs.Limits.{most_radios};
 ghost use Rattle.captures.specs.Text.{most_number};
@@ -24,7 +26,7 @@ pub const CUT_BYTES: usize = 8;
 const TABLE_BYTES: usize = site::MOST_RADIOS * site::MOST_RADIOS;
 
 // What is wrong with a text, before its map is surveyed. Where a line is at fault its number is told.
-#[derive(Drop)]
+#[derive(Clone, Copy)]
 pub enum TextFault {
     TooLong,
     WrongShape(usize),
@@ -33,7 +35,7 @@ pub enum TextFault {
 }
 
 // What the first line of a capture says: its number, the radios, the two ends, the paths wanted.
-#[derive(Drop)]
+#[derive(Clone, Copy)]
 pub struct FirstLine {
     pub capture: usize,
     pub n: usize,
@@ -44,7 +46,7 @@ pub struct FirstLine {
 
 // The numbers of a capture: its own number and the paths wanted, as its first line says them, and what the survey says of its
 // map. A text that is refused before the survey has a refusal and a place, and 0 for all else.
-#[derive(Drop)]
+#[derive(Clone, Copy)]
 pub struct Surveyed {
     pub capture: usize,
     pub wanted: usize,

@@ -1,4 +1,6 @@
 // The two passes over the text of a capture: the shape of its lines, then what they say and its table.
+#![tactic(auto)]
+
 ghost use Rattle.std.specs.Prelude.{◌≡◌, ◌+◌, ◌*◌, ◌≤◌, ◌<◌, length};
 ghost use Rattle.site.specs.Limits.{most_radios};
 ghost use Rattle.captures.specs.Words.{line_feed};

@@ -1,9 +1,11 @@
 // The messages of the token rules, and what one inner step of the machine answers.
+#![tactic(auto)]
+
 ghost use Rattle.std.specs.Prelude.{◌≡◌};
 ghost use Rattle.tokens.specs.Rules.{message};
 
 // The four kinds of message.
-#[derive(Drop)]
+#[derive(Clone, Copy)]
 pub enum Kind {
     Pdt,
     PdtB,
@@ -12,7 +14,7 @@ pub enum Kind {
 }
 
 // A message with its two ends: the half that sends it and the half that receives it.
-#[derive(Drop)]
+#[derive(Clone, Copy)]
 pub struct Message {
     pub kind: Kind,
     pub from: usize,
@@ -20,7 +22,7 @@ pub struct Message {
 }
 
 // One inner step sends a message, or finds that the run is over.
-#[derive(Drop)]
+#[derive(Clone, Copy)]
 pub enum Answer {
     Sent(Message),
     End,
