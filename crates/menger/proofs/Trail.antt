@@ -1,5 +1,5 @@
 -- Trails: following marked steps from the source. A trail is written backwards, where it stands now first and the source last. Assumes nothing.
-use mathlib.Core.Path.{◌≡◌, refl, sym, ap, ◌∙◌}
+use mathlib.Core.Path.{◌≡◌, refl, sym, ap, ◌∙◌, subst}
 use mathlib.Core.Bool.{true, cond}
 use mathlib.Core.List.{List, [], ◌∷◌}
 use mathlib.Core.Logic.{◌⊎◌, inl, inr}
@@ -165,7 +165,7 @@ module _ {net : Network} {m : Marks} {next : ℕ → ℕ} (lines : Unbranched ne
   one_way_back x (y ∷ rest) [] ne k k' = absurd (lines.source_first y (rw k' at k.0))
   one_way_back x (y ∷ rest) (z ∷ rest') ne k k' =
       let e : y ≡ z = lines.one_back y z x k.0 k'.0 ne in
-      let f : rest ≡ rest' = one_way_back y rest rest' (leaves y x k.0) k.1 (rw e k'.1) in
+      let f : rest ≡ rest' = one_way_back y rest rest' (leaves y x k.0) k.1 (subst (λ w. Back m net.source (w ∷ rest')) (sym e) k'.1) in
       cc
 
   once_back : (x : ℕ) (rest : List ℕ) → (x ≡ net.goal → ⊥) → Back m net.source (x ∷ rest) → Different (x ∷ rest)
