@@ -53,6 +53,7 @@ Among lines lines' = (line : Line) → Memᴰ line lines → is_record line ≡ 
 
 -- what each of them has, one of them has
 pub all_there : (P : Line → Type 0) (lines : List Line) → All P lines → (line : Line) → Memᴰ line lines → P line
+all_there P [] all line m = elim m [ ]
 all_there P (other ∷ lines) all line (Memᴰ.head e) = subst P (sym e) all.0
 all_there P (other ∷ lines) all line (Memᴰ.tail m) = all_there P lines all.1 line m
 
@@ -71,6 +72,7 @@ cell_in n place (line ∷ lines) c = go (or_cases (is_cell n place line) (in_cel
     go (inr h) rest = let w = rest h in record { line = w.line; there = Memᴰ.tail w.there; is = w.is }
 
 pub cell-of : (n place : ℕ) (line : Line) (lines : List Line) → Memᴰ line lines → is_cell n place line ≡ true → in_cells n place lines ≡ true
+cell-of n place line [] m c = elim m [ ]
 cell-of n place line (other ∷ lines) (Memᴰ.head e) c = or_left (is_cell n place other) (in_cells n place lines) (rw e at c)
 cell-of n place line (other ∷ lines) (Memᴰ.tail m) c = or_right (is_cell n place other) (in_cells n place lines) (cell-of n place line lines m c)
 
