@@ -21,11 +21,3 @@ returns c = let a = c.args in
     let end : l.i ≡ length a.bytes.now = omega arith in
     all_zeroed a.bytes.now a.from l.bytes (subst (λ (i : ℕ). Zeroed a.bytes.now a.from i l.bytes) end l.invariant.3)
 
--- ?? 7 answers for 5 goals: loop-i-init bounds-bytes-i loop-i-smaller loop-i-preserved returns
--- loop-holds
--- (λ c. omega arith)
--- (λ c. omega arith)
--- (λ c. omega arith)
--- loop-again
--- (λ c. c.loop-i.invariant.2)
--- returns
