@@ -1,23 +1,19 @@
--- "Maps on both sides of each edge" of document 01, the last row as document 02 amends it: the ten rows proved together, three maps with handhelds, and the case Q with k = 3 given whole.
-use Rattle.std.specs.Prelude.{◌≡◌, refl, Bool, true, false, List, [], ◌∷◌, map, ℕ, ◌+◌, ◌-◌, ◌*◌, eqb, length, set, replicate}
-use Rattle.basics.specs.Counting.{sum, first_within}
-use Rattle.site.specs.Map.{linked, links, handheld, exists, passes, inside_step, link_step, step, A}
-use Rattle.refusals.specs.Refusals.{Call, call_of, cell_finding, finding_at, first_bad, finding, map_verdict, pair_verdict, room_verdict, verdict}
-use Rattle.tokens.specs.Rules.{may_walk, candidate, can_try, next_place, gets, next_marked, pass_on, release, carry, tries, search, reversed, grant, decline, go_on, inner_step, start}
-use Rattle.tokens.specs.Run.{run_on, walked, cut_item, item_of}
+-- "Maps on both sides of each edge" of document 01, the last row as document 02 amends it: the ten rows, three maps with handhelds, and the case Q with k = 3 given whole. proofs/Rows.antt proves them.
+use Rattle.std.specs.Prelude.{Bool, true, false, List, [], ◌∷◌, map, ℕ, ◌+◌, ◌-◌, ◌*◌, eqb, length, set, replicate}
+use Rattle.site.specs.Map.{linked, links, handheld, A}
+use Rattle.refusals.specs.Refusals.{Call, call_of}
 use Rattle.outcome.specs.declared.Outcome.{Outcome}
-use Rattle.outcome.specs.Leaves.{run_of, paths_found, cut_found, outcome, log_left, paths_left, cut_left}
+use Rattle.outcome.specs.Leaves.{outcome, log_left, paths_left, cut_left}
 use Rattle.path_lists.specs.Bytes.{path_bytes}
-use Rattle.message_log.specs.Bytes.{log_bytes}
 use Rattle.buffers.specs.Zeros.{zeros_after}
 
 -- ---- a map given by its links; a handheld is linked to itself
 
-abbrev with_links : ℕ → List ℕ → List (ℕ × ℕ) → List ℕ
+abbrev pub with_links : ℕ → List ℕ → List (ℕ × ℕ) → List ℕ
 with_links n table [] = table
 with_links n table (l ∷ rest) = with_links n (set (set table (l.0 * n + l.1) 1) (l.1 * n + l.0) 1) rest
 
-abbrev table_of : ℕ → List (ℕ × ℕ) → List ℕ
+abbrev pub table_of : ℕ → List (ℕ × ℕ) → List ℕ
 table_of n list = with_links n (replicate (n * n) 0) list
 
 -- ---- what comes of a call
@@ -45,7 +41,7 @@ pub data Result : Type 0 where
   refused : RefusalResult → Result
 
 -- by the definitions
-abbrev result_of : Call → Result
+abbrev pub result_of : Call → Result
 result_of call =
     let o = outcome call in
     elim (eqb o.refusal 0) [
@@ -80,7 +76,7 @@ pub record MapRow : Type 0 where
   pub result : Result
 
 -- n, links, S, T, k; full, the paths, rounds, messages, the cut, A. The place is 0, and each buffer is just long enough
-abbrev accepts : ℕ → List (ℕ × ℕ) → ℕ → ℕ → ℕ → Bool → List (List ℕ) → ℕ → ℕ → List ℕ → ℕ → MapRow
+abbrev pub accepts : ℕ → List (ℕ × ℕ) → ℕ → ℕ → ℕ → Bool → List (List ℕ) → ℕ → ℕ → List ℕ → ℕ → MapRow
 accepts n list S T k full paths rounds messages cut steps =
     let paths_length = n - 2 + 3 * k in
     record {
@@ -100,7 +96,7 @@ accepts n list S T k full paths rounds messages cut steps =
     }
 
 -- n, cells, S, T, k; number, place. The buffers are 12, 3 and 1 bytes long
-abbrev refuses : ℕ → List ℕ → ℕ → ℕ → ℕ → ℕ → ℕ → MapRow
+abbrev pub refuses : ℕ → List ℕ → ℕ → ℕ → ℕ → ℕ → ℕ → MapRow
 refuses n table S T k number place =
     record {
       made = call_of n table S T k 12 3 1;
@@ -109,10 +105,10 @@ refuses n table S T k number place =
           (record { number = number; place = place; counts = 0 ∷ 0 ∷ 0 ∷ []; log = replicate 12 0; path_list = replicate 3 0; cut_list = replicate 1 0 });
     }
 
-abbrev Q : List (ℕ × ℕ)
+abbrev pub Q : List (ℕ × ℕ)
 Q = (0, 1) ∷ (0, 4) ∷ (1, 2) ∷ (1, 6) ∷ (2, 3) ∷ (2, 5) ∷ (3, 4) ∷ (3, 7) ∷ (6, 7) ∷ []
 
-abbrev rows : List MapRow
+abbrev pub rows : List MapRow
 rows =
     accepts 2 ((0, 1) ∷ []) 0 1 1 true ((0 ∷ 1 ∷ []) ∷ []) 1 3 [] 1
     ∷ accepts 2 ((0, 1) ∷ []) 0 1 2 false ((0 ∷ 1 ∷ []) ∷ []) 2 3 (255 ∷ []) 1
@@ -126,22 +122,13 @@ rows =
     ∷ refuses 2 (0 ∷ 1 ∷ 0 ∷ 0 ∷ []) 0 1 1 13 1
     ∷ []
 
--- every row of the table is what the definitions say
-pub ten_maps : map (λ (row : MapRow). result_of row.made) rows ≡ map (λ (row : MapRow). row.result) rows
-unfolding sum first_within linked links handheld exists passes inside_step link_step step A cell_finding finding_at first_bad finding map_verdict pair_verdict room_verdict verdict may_walk candidate can_try next_place gets next_marked pass_on release carry tries search reversed grant decline go_on inner_step start run_on walked cut_item item_of run_of paths_found cut_found path_bytes log_bytes outcome log_left paths_left cut_left
-ten_maps = refl
-
 -- document 02, 3/13: a chain whose middle radio is a handheld, two linked handhelds as S and T, and Q with its radio 6 a handheld
-abbrev handhelds : List MapRow
+abbrev pub handhelds : List MapRow
 handhelds =
     accepts 3 ((0, 1) ∷ (1, 2) ∷ (1, 1) ∷ []) 0 2 1 false [] 1 2 [] 2
     ∷ accepts 2 ((0, 1) ∷ (0, 0) ∷ (1, 1) ∷ []) 0 1 1 true ((0 ∷ 1 ∷ []) ∷ []) 1 3 [] 1
     ∷ accepts 8 ((6, 6) ∷ Q) 0 7 2 false ((0 ∷ 1 ∷ 2 ∷ 3 ∷ 7 ∷ []) ∷ []) 2 57 (3 ∷ []) 19
     ∷ []
-
-pub three_maps : map (λ (row : MapRow). result_of row.made) handhelds ≡ map (λ (row : MapRow). row.result) handhelds
-unfolding sum first_within linked links handheld exists passes inside_step link_step step A cell_finding finding_at first_bad finding map_verdict pair_verdict room_verdict verdict may_walk candidate can_try next_place gets next_marked pass_on release carry tries search reversed grant decline go_on inner_step start run_on walked cut_item item_of run_of paths_found cut_found path_bytes log_bytes outcome log_left paths_left cut_left
-three_maps = refl
 
 -- ---- the case given whole
 
@@ -152,11 +139,11 @@ pub record Whole : Type 0 where
   pub cut_list : List ℕ
 
 -- its numbers: refusal, place, paths, rounds, messages
-abbrev short_of_q : Outcome
+abbrev pub short_of_q : Outcome
 short_of_q = record { refusal = 0; place = 0; paths = 2; rounds = 3; messages = 62 }
 
 -- its 62 messages, eight to a line: kind, round, sending half, receiving half
-abbrev log_of_q : List ℕ
+abbrev pub log_of_q : List ℕ
 log_of_q =
     1 ∷ 1 ∷ 1 ∷ 2 ∷ 1 ∷ 1 ∷ 2 ∷ 3 ∷ 1 ∷ 1 ∷ 3 ∷ 4 ∷ 1 ∷ 1 ∷ 4 ∷ 5 ∷ 1 ∷ 1 ∷ 5 ∷ 2 ∷ 2 ∷ 1 ∷ 2 ∷ 5 ∷ 1 ∷ 1 ∷ 5 ∷ 6 ∷ 1 ∷ 1 ∷ 6 ∷ 7
     ∷ 1 ∷ 1 ∷ 7 ∷ 4 ∷ 2 ∷ 1 ∷ 4 ∷ 7 ∷ 1 ∷ 1 ∷ 7 ∷ 8 ∷ 1 ∷ 1 ∷ 8 ∷ 9 ∷ 1 ∷ 1 ∷ 9 ∷ 6 ∷ 2 ∷ 1 ∷ 6 ∷ 9 ∷ 2 ∷ 1 ∷ 9 ∷ 8 ∷ 2 ∷ 1 ∷ 8 ∷ 7
@@ -169,12 +156,5 @@ log_of_q =
     ∷ []
 
 -- every number and every byte that the definitions say a call leaves
-abbrev whole_of : Call → Whole
+abbrev pub whole_of : Call → Whole
 whole_of call = record { numbers = outcome call; log = log_left call; path_list = paths_left call; cut_list = cut_left call }
-
--- Q with k = 3: both paths, both cut items, and 0 past them
-pub case_q :
-    whole_of (call_of 8 (table_of 8 Q) 0 7 3 560 15 3)
-    ≡ record { numbers = short_of_q; log = zeros_after 560 log_of_q; path_list = zeros_after 15 (4 ∷ 0 ∷ 1 ∷ 6 ∷ 7 ∷ 4 ∷ 0 ∷ 4 ∷ 3 ∷ 7 ∷ []); cut_list = 1 ∷ 4 ∷ 0 ∷ [] }
-unfolding sum first_within linked links handheld exists passes inside_step link_step step A cell_finding finding_at first_bad finding map_verdict pair_verdict room_verdict verdict may_walk candidate can_try next_place gets next_marked pass_on release carry tries search reversed grant decline go_on inner_step start run_on walked cut_item item_of run_of paths_found cut_found path_bytes log_bytes outcome log_left paths_left cut_left
-case_q = refl
