@@ -20,4 +20,3 @@ returns c = let a = c.args in
     let l = c.loop-i in
     let end : l.i ≡ length a.bytes.now = omega arith in
     all_zeroed a.bytes.now a.from l.bytes (subst (λ (i : ℕ). Zeroed a.bytes.now a.from i l.bytes) end l.invariant.3)
-
