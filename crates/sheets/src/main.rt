@@ -1,0 +1,107 @@
+// Writes the sheet of each sample that its arguments name, under the sample's name. The gate runs it.
+#![tactic(auto)]
+
+ghost use Rattle.std.specs.Prelude.{◌≡◌, ◌≤◌, length};
+ghost use Rattle.io.specs.Counts.{IsPrefixLen};
+
+use std::env::{Env, FillError};
+use std::fs::File;
+use std::io;
+use std::io::Read;
+
+// As the program `sheet` reads: one byte more than a text may have.
+const TEXT_BYTES: usize = text_survey::MOST_BYTES + 1;
+// Room for any path.
+const NAME_BYTES: usize = 4096;
+// What every byte holds before a call: a byte that the call forgets shows.
+const OLD_BYTE: u8 = 0x_aa;
+
+// What cannot be written is left out, and the rest is tried.
+fn put(out: &impl Print, bytes: &[u8]) {
+    let _ = out.write_all(bytes);
+}
+
+fn write_sheet_of(out: &impl Print, text: &[u8]) {
+    let mut sheet = [OLD_BYTE; sheet_text::SHEET_ROOM];
+    let written = sheet_text::write_sheet(text, &mut sheet);
+    put(out, &sheet[..written]);
+}
+
+// How many bytes it brought, up to the end of the input, a read that fails, or the end of the room for them.
+fn read_full(input: &mut impl Read, text: &mut [u8]) -> usize
+    ensures { IsPrefixLen result text.new }
+{
+    let mut done = 0;
+    while done < text.len() {
+        let Ok(more) = input.read(&mut text[done..]) else {
+            break;
+        };
+        if more == 0 {
+            break;
+        }
+        done += more;
+    }
+    done
+}
+
+// The system's words alone, without the number that stands behind them.
+fn words_of(told: &str) -> &str {
+    match told.split_once(" (os error ") {
+        Some((words, _)) => words,
+        None => told,
+    }
+}
+
+// A line on standard error: the name, a colon, and why it cannot be opened.
+fn fail(rt: &HostRuntime, name: &[u8], error: &io::Error) {
+    let err = rt.stderr();
+    put(&err, name);
+    put(&err, b": ");
+    match format!(in rt.alloc(); "{error}") {
+        Ok(told) => put(&err, words_of(told.as_str()).as_bytes()),
+        Err(_) => put(&err, b"out of memory"),
+    }
+    put(&err, b"\n");
+}
+
+// A path is text.
+fn open(rt: &HostRuntime, name: &[u8]) -> io::Result<File> {
+    match str::from_utf8(name) {
+        Ok(path) => File::open(rt, path),
+        Err(_) => Err(io::Error::new(io::ErrorKind::InvalidInput, "the name is not UTF-8")),
+    }
+}
+
+fn read_and_write(rt: &HostRuntime, name: &[u8]) {
+    let mut text = [OLD_BYTE; TEXT_BYTES];
+    let length = match open(rt, name) {
+        Ok(mut file) => read_full(&mut file, &mut text),
+        Err(error) => {
+            fail(rt, name, &error);
+            return;
+        }
+    };
+    write_sheet_of(rt, &text[..length]);
+}
+
+// The sheet of the sample that argument i names. A name that finds no room is read as an empty one. Is there such an argument?
+fn answer(rt: &HostRuntime, i: usize) -> bool {
+    let mut name = [0u8; NAME_BYTES];
+    let length = match rt.arg(i, &mut name) {
+        Ok(length) => length,
+        Err(FillError::TooLong) => 0,
+        Err(FillError::NotPresent) => return false,
+    };
+    put(rt, &name[..length]);
+    put(rt, b"\n");
+    read_and_write(rt, &name[..length]);
+    true
+}
+
+fn main(rt: HostRuntime) {
+    for i in 1..usize::MAX {
+        if !answer(&rt, i) {
+            break;
+        }
+    }
+}
