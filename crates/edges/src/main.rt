@@ -3,10 +3,10 @@
 #![tactic(auto)]
 
 ghost use Rattle.std.specs.Prelude.{◌≡◌, ◌≤◌, length};
-ghost use Rattle.io.specs.Counts.{IsPrefixLen};
+ghost use Rattle.streams.specs.Counts.{IsPrefixLen};
 
 use outcome::Outcome;
-use std::io::Read;
+use streams::{put, put_decimal, put_hexadecimal, read_full};
 
 // Room for twice the calls that there are.
 const TEXT_BYTES: usize = 16384;
@@ -235,19 +235,6 @@ fn table_in(line: &[u8]) -> [u8; TABLE_BYTES]
     table
 }
 
-// What cannot be written is left out, and the rest is tried.
-fn put(out: &impl Print, bytes: &[u8]) {
-    let _ = out.write_all(bytes);
-}
-
-fn put_decimal(out: &impl Print, number: u64) {
-    let _ = out.print(number);
-}
-
-fn put_hexadecimal(out: &impl Print, byte: u8) {
-    let _ = print!(out; "{byte:02x}");
-}
-
 fn write_field(out: &impl Print, name: &[u8], number: usize) {
     put(out, name);
     put_decimal(out, number as u64);
@@ -395,23 +382,6 @@ fn survey_lines(out: &impl Print, text: &[u8], log: &mut [u8], paths: &mut [u8],
         survey_line(out, &text[at..end], log, paths, cut);
         at = end + 1;
     }
-}
-
-// How many bytes it brought, up to the end of the input, a read that fails, or the end of the room for them.
-fn read_full(input: &mut impl Read, text: &mut [u8]) -> usize
-    ensures { IsPrefixLen result text.new }
-{
-    let mut done = 0;
-    while done < text.len() {
-        let Ok(more) = input.read(&mut text[done..]) else {
-            break;
-        };
-        if more == 0 {
-            break;
-        }
-        done += more;
-    }
-    done
 }
 
 fn main(rt: HostRuntime) {

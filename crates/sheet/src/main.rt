@@ -2,7 +2,7 @@
 // standard error.
 #![tactic(auto)]
 
-ghost use Rattle.sheet.specs.Reading.{Within};
+ghost use Rattle.sheet.specs.Reading.{Within, Brings, BringsAll};
 
 use std::io::Read;
 
@@ -17,8 +17,9 @@ enum Reading {
 }
 
 // One read. That it failed is told apart from the end of the input, which brings no bytes.
-fn read_some(input: &mut impl Read, text: &mut [u8]) -> Reading
-    ensures { Within result text.new }
+fn read_some<R: Read>(input: &mut R, text: &mut [u8]) -> Reading
+    ensures within { Within result text.new }
+    ensures bytes { Brings (R.remaining input.old) (R.remaining input.new) result text.new }
 {
     match input.read(text) {
         Ok(count) => Reading::Whole(count),
@@ -27,8 +28,9 @@ fn read_some(input: &mut impl Read, text: &mut [u8]) -> Reading
 }
 
 // Reads until the input ends or text is full. Half a capture must not become a sheet, so a read that fails is the answer.
-fn read_text(input: &mut impl Read, text: &mut [u8]) -> Reading
-    ensures { Within result text.new }
+fn read_text<R: Read>(input: &mut R, text: &mut [u8]) -> Reading
+    ensures within { Within result text.new }
+    ensures bytes { BringsAll (R.remaining input.old) (R.remaining input.new) result text.new }
 {
     let mut done = 0;
     while done < text.len() {

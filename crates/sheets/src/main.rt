@@ -1,13 +1,10 @@
 // Writes the sheet of each sample that its arguments name, under the sample's name. The gate runs it.
 #![tactic(auto)]
 
-ghost use Rattle.std.specs.Prelude.{◌≡◌, ◌≤◌, length};
-ghost use Rattle.io.specs.Counts.{IsPrefixLen};
-
 use std::env::{Env, FillError};
 use std::fs::File;
 use std::io;
-use std::io::Read;
+use streams::{put, read_full};
 
 // As the program `sheet` reads: one byte more than a text may have.
 const TEXT_BYTES: usize = text_survey::MOST_BYTES + 1;
@@ -16,32 +13,10 @@ const NAME_BYTES: usize = 4096;
 // What every byte holds before a call: a byte that the call forgets shows.
 const OLD_BYTE: u8 = 0x_aa;
 
-// What cannot be written is left out, and the rest is tried.
-fn put(out: &impl Print, bytes: &[u8]) {
-    let _ = out.write_all(bytes);
-}
-
 fn write_sheet_of(out: &impl Print, text: &[u8]) {
     let mut sheet = [OLD_BYTE; sheet_text::SHEET_ROOM];
     let written = sheet_text::write_sheet(text, &mut sheet);
     put(out, &sheet[..written]);
-}
-
-// How many bytes it brought, up to the end of the input, a read that fails, or the end of the room for them.
-fn read_full(input: &mut impl Read, text: &mut [u8]) -> usize
-    ensures { IsPrefixLen result text.new }
-{
-    let mut done = 0;
-    while done < text.len() {
-        let Ok(more) = input.read(&mut text[done..]) else {
-            break;
-        };
-        if more == 0 {
-            break;
-        }
-        done += more;
-    }
-    done
 }
 
 // The system's words alone, without the number that stands behind them.
