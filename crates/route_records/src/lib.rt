@@ -198,8 +198,7 @@ fn fill(routes: &mut [Route], n: usize, fields: &[u8])
 
 // The route records of a map of n radios, by the first `count` paths of a list as a survey leaves it. It accepts any numbers and any
 // bytes: what is not in order is refused by number, 1, 20 or 21, and then no record is changed. Records past n stay as they were.
-#[unsafe(no_mangle)]
-pub extern "C" fn fog_routes(n: usize, count: usize, paths: &[u8], routes: &mut [Route]) -> usize
+pub fn fog_routes(n: usize, count: usize, paths: &[u8], routes: &mut [Route]) -> usize
     ensures { RoutesPromise (record { n = n; count = count; list = paths.now; records = routes.old }) result routes.new }
 {
     let refusal = refusal_of(n, routes.len(), count, paths);

@@ -86,8 +86,7 @@ fn accepted(
 // The survey of a map of n radios, from s to t, for k paths. The table is only read. It accepts any numbers and any
 // lengths: what is not in order is refused by number, in the order of document 01. The log, the path list and the cut list
 // are left with the outcome and zeros after it; a refused call leaves zeros throughout and all counts 0.
-#[unsafe(no_mangle)]
-pub extern "C" fn fog_survey(
+pub fn fog_survey(
     n: usize,
     table: &[u8],
     s: usize,
