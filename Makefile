@@ -13,7 +13,7 @@ SHELL := bash
 # A script that calls make again starts afresh.
 unexport MAKEFLAGS MAKELEVEL MFLAGS
 
-# The crates that export a public call: each is one member of the archive.
+# The public calls: the crate NAME_c exports the call of the crate NAME, and is one member of the archive.
 CALLS := survey route_records
 
 PREFIX := /usr/local
@@ -21,10 +21,10 @@ DESTDIR :=
 place = $(DESTDIR)$(PREFIX)
 
 library := target/libfogsignaller.a
-# A copy of what rt wrote, made once rt is content: what rt itself leaves in target/bin may have failed its run.
+# A copy of what rt wrote, made once its run is as it must be: what rt itself leaves in crates/sheet/out may have failed it.
 program := target/program/sheet
-# Folders too: their date tells that a file was taken away.
-sources := crates.txt $(shell find crates)
+# Folders too: their date tells that a file was taken away. What rt keeps of each crate, in its folder out, is no source.
+sources := crates.txt $(shell find crates -name out -prune -o -print)
 version := $(shell sed -n 's/^.define FOG_VERSION "\([0-9.]*\)"$$/\1/p' include/fogsignaller.h)
 ifeq ($(version),)
 $(error include/fogsignaller.h has no FOG_VERSION)
@@ -44,8 +44,8 @@ define rt_is_there
 fi
 endef
 
-# rt keeps its notes in target/, for one run at a time: the second build waits for the first, and then looks anew. The lock is
-# the system's, on a descriptor that every process of a build holds: it is gone with the last of them, however that ended.
+# One build at a time: the second waits for the first, and then looks anew. The lock is the system's, on a descriptor that every
+# process of a build holds: it is gone with the last of them, however that ended.
 # A name of its own, or `make -n` would run it.
 make := $(MAKE)
 define build_alone
@@ -57,6 +57,12 @@ mkdir -p target; \
 exec 9>target/lock; \
 if ! flock -n 9; then echo 'make: another build is under way: waiting for its end' >&2; flock 9; fi; \
 $(make) -s $(1) CALLS='$(CALLS)' AR='$(AR)'
+endef
+
+# A folder out that rt makes later would make its crate's folder newer than what is built here.
+define begin_in
+@mkdir -p $(1) $(addsuffix out,$(wildcard crates/*/))
+@touch $(1)/begun
 endef
 
 .PHONY: all library program check install uninstall version help prefix-is-whole
@@ -79,31 +85,32 @@ check:
 $(library): Makefile $(sources)
 	@rm -rf $@ target/members
 	$(rt_is_there)
-	@mkdir -p target/members
-	@touch target/members/begun
+	$(call begin_in,target/members)
 	@echo 'proving the public calls ($(CALLS)) and writing $@'
 	@for call in $(CALLS); do \
-		rm -f "target/staticlib/lib$$call.a"; \
-		rt staticlib "$$call"; \
-		if (($$($(AR) t "target/staticlib/lib$$call.a" | wc -l) != 1)); then \
-			echo "target/staticlib/lib$$call.a has not one member" >&2; exit 1; \
+		made="crates/$${call}_c/out/lib$${call}_c.a"; \
+		rm -f "$$made"; \
+		(cd "crates/$${call}_c" && rt lib); \
+		if (($$($(AR) t "$$made" | wc -l) != 1)); then \
+			echo "$$made has not one member" >&2; exit 1; \
 		fi; \
-		$(AR) p "target/staticlib/lib$$call.a" >"target/members/$$call.o"; \
+		$(AR) p "$$made" >"target/members/$$call.o"; \
 	done
 	@cd target/members && $(AR) rcsD libfogsignaller.a $(CALLS:%=%.o) && touch -r begun libfogsignaller.a
 	@mv target/members/libfogsignaller.a $@
 	@rm -rf target/members
 
-# rt takes a program whose sources did not change for built, even where it was taken away; its stamp is that note.
+# rt proves, builds and runs it; what it prints of crates/sheet/stdin must be crates/sheet/stdout.
 $(program): $(sources)
 	@rm -rf $(@D)
 	$(rt_is_there)
-	@mkdir -p $(@D)
-	@touch $(@D)/begun
+	$(call begin_in,$(@D))
 	@echo 'proving the program and writing $@'
-	@if [[ ! -e target/bin/$(@F) ]]; then rm -f target/stamp/$(@F); fi
-	@rt check $(@F)
-	@cp target/bin/$(@F) $(@D)/new
+	@cd crates/$(@F) && rt run <stdin >'$(CURDIR)/$(@D)/printed'
+	@if ! cmp -s $(@D)/printed crates/$(@F)/stdout; then \
+		echo 'make: the program is proved, and does not print crates/$(@F)/stdout' >&2; exit 1; \
+	fi
+	@cp crates/$(@F)/out/$(@F) $(@D)/new
 	@touch -r $(@D)/begun $(@D)/new
 	@mv $(@D)/new $@
 
