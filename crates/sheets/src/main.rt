@@ -4,12 +4,15 @@
 use std::env::{Env, FillError};
 use std::fs::File;
 use std::io;
+use std::io::Write;
 use streams::{put, read_full};
 
 // As the program `sheet` reads: one byte more than a text may have.
 const TEXT_BYTES: usize = text_survey::MOST_BYTES + 1;
 // Room for any path.
 const NAME_BYTES: usize = 4096;
+// More than the words of any error of the system take.
+const WORDS_BYTES: usize = 256;
 // What every byte holds before a call: a byte that the call forgets shows.
 const OLD_BYTE: u8 = 0x_aa;
 
@@ -20,22 +23,23 @@ fn write_sheet_of(out: &impl Print, text: &[u8]) {
 }
 
 // The system's words alone, without the number that stands behind them.
-fn words_of(told: &str) -> &str {
-    match told.split_once(" (os error ") {
-        Some((words, _)) => words,
-        None => told,
+fn words_of(told: &[u8]) -> &[u8] {
+    let mut end = 0;
+    while end < told.len() && told[end] != 0 && !told[end..].starts_with(b" (os error ") {
+        end += 1;
     }
+    &told[..end]
 }
 
 // A line on standard error: the name, a colon, and why it cannot be opened.
 fn fail(rt: &HostRuntime, name: &[u8], error: &io::Error) {
     let err = rt.stderr();
+    let mut told = io::Cursor::new([0u8; WORDS_BYTES]);
+    let _ = write!(told, "{error}");
+    let told = told.into_inner();
     put(&err, name);
     put(&err, b": ");
-    match format!(in rt.alloc(); "{error}") {
-        Ok(told) => put(&err, words_of(told.as_str()).as_bytes()),
-        Err(_) => put(&err, b"out of memory"),
-    }
+    put(&err, words_of(&told));
     put(&err, b"\n");
 }
 
