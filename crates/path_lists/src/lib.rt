@@ -47,6 +47,7 @@ struct Seen {
 }
 
 // Does the path lead from s to t, with two radios or more?
+#[tactic(auto, unfolding(crate::specs::Judge::joins))]
 fn joins(path: &[u8], s: u8, t: u8) -> bool
     ensures { result ≡ joins s t path.now }
 {

@@ -2,7 +2,5 @@ pub mod Judged
 pub mod Places
 pub mod Told
 pub mod Fields
-pub mod Again
-pub mod SharedArray
 pub mod Filled
 pub mod Promised

@@ -92,7 +92,7 @@ module _ (n S T : ℕ) where
       go : (b : Bool) → ltb (place_in path v) (length path) ≡ b → record_from (suc number) paths v ≡ record_at (suc number + i) (get_or paths i []) j
           → cond b (record_at number path (place_in path v)) (record_from (suc number) paths v) ≡ record_at (number + suc i) (get_or paths i []) j
       go true e later =
-          let l = ltb-true _ _ e in
+          let l : place_in path v < length path = ltb-true _ _ e in
           let other = all_at (RadioList n S T) paths i [] each.1 (omega arith) in
           let apart = (all_at (Disjoint S T path) paths i [] two.0 (omega arith)).apart v (rw (sym (at_place path v l)) (among-at path (place_in path v) l)) (among-at (get_or paths i []) j there) in
           same_ends number (number + suc i) each.0 other l there (at_place path v l) refl apart

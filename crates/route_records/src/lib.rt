@@ -1,6 +1,5 @@
 // A route record for every radio, in a list that the caller lends. The covered core reads the path list: `refusal_of` judges it, and
-// `fields_of` computes the fields of all radios first. `set_route`, `fill` and `fog_routes` have a `&mut [Route]`: they are thin, and
-// proved by hand.
+// `fields_of` computes the fields of all radios first. `set_route`, `fill` and `fog_routes` have a `&mut [Route]`: they are thin.
 #![tactic(auto)]
 
 ghost use Rattle.std.specs.Prelude.{◌≡◌, ◌++◌, ◌+◌, ◌*◌, ◌≤◌, ◌<◌, length, set, drop};
@@ -63,6 +62,7 @@ fn alone(role: Role) -> Route
 }
 
 // The record of the radio at place i of the path with this number.
+#[tactic(auto, unfolding(crate::specs::Records::record_at))]
 fn record_at(path: &[u8], number: usize, i: usize) -> Route
     requires { (i < length path.now) × (number ≤ most_paths) }
     ensures { result ≡ record_at number path.now i }
@@ -140,6 +140,7 @@ fn route_at(fields: &[u8], v: usize) -> Route
 }
 
 // Refusals 1, 20 and 21, for a list of so many records.
+#[tactic(auto, unfolding(crate::specs::Records::routes_verdict))]
 fn judge(n: usize, records: usize, count: usize, paths: &[u8]) -> Verdict
     ensures { result ≡ routes_verdict n records count paths.now }
 {

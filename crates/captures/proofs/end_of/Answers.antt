@@ -1,12 +1,9 @@
 -- `captures::end_of` meets its contract. The loop's invariant: the end from here on is the end from the start on. Assumes nothing.
-use mathlib.Core.Path.{refl, sym, ◌∙◌}
+use mathlib.Core.Path.{sym, ◌∙◌}
 use native.Mathlib.Omega.{arith}
 use borrow.Author.Tests.{eq-eqb, ne_eqb}
 use Rattle.captures.proofs.Pieces.{first_here, first_further, first_none}
 use Rattle.captures.proofs.end_of.Goals as goal
-
-pub loop-place-init : goal.loop-place-init
-loop-place-init c = (omega arith, refl)
 
 pub returns-then-bytes-place : goal.returns-then-bytes-place
 returns-then-bytes-place c = sym (c.loop-place.invariant.1 ∙ first_here _ _ _ c.loop-place-test.true (eq-eqb _ _ c.if-bytes-place.true))

@@ -1,5 +1,5 @@
 -- `captures::is_word` meets its contract. The loop's invariant: both are the same exactly if what is left of them is. Assumes nothing.
-use mathlib.Core.Path.{refl, sym, ap₂, ◌∙◌}
+use mathlib.Core.Path.{sym, ap₂, ◌∙◌}
 use native.Mathlib.Omega.{arith}
 use lib.ListN.{drop_of_length-le}
 use Rattle.captures.specs.Text.{same}
@@ -8,9 +8,6 @@ use Rattle.captures.proofs.is_word.Goals as goal
 
 pub returns-then-field-word : goal.returns-then-field-word
 returns-then-field-word c = sym (same-long _ _ c.if-field-word.true)
-
-pub loop-i-init : goal.loop-i-init
-loop-i-init c = (omega arith, refl)
 
 pub returns-then-field-i : goal.returns-then-field-i
 returns-then-field-i c = let l = c.loop-i in

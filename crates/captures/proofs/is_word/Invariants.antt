@@ -5,7 +5,6 @@ use lib.ListN.{length, drop}
 use Rattle.captures.specs.Text.{same}
 use Rattle.captures.proofs.is_word.Given as goal
 
--- `captures::is_word` meets its contract. The loop's invariant: both are the same exactly if what is left of them is. Assumes nothing.
 abbrev pub invariant-loop-i : goal.invariant-loop-i
 invariant-loop-i l = (l.i ≤ length l.word) × (same l.field l.word ≡ same (drop l.i l.field) (drop l.i l.word))
 

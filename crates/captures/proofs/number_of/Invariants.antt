@@ -4,7 +4,6 @@ use lib.ListN.{length}
 use Rattle.captures.proofs.Fields.{NumberRead}
 use Rattle.captures.proofs.number_of.Given as goal
 
--- `captures::number_of` meets its contract. The loop's invariant: what `NumberRead` says of the bytes passed. Assumes nothing.
 abbrev pub invariant-loop-i : goal.invariant-loop-i
 invariant-loop-i l = NumberRead l.field l.value l.i
 
