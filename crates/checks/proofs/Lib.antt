@@ -1,7 +1,5 @@
-pub mod Rows
 pub mod Cells
 pub mod Gathering
-pub mod Agreeing
 pub mod Spreading
 pub mod Scan
 pub mod Mirrored

@@ -1,13 +1,12 @@
 -- The rows gathered one after another: what is known before each row, and what it comes to. Assumes nothing.
 use mathlib.Core.Path.{◌≡◌, refl, sym, ap, ◌∙◌}
-use mathlib.Core.Bool.{Bool, false, not, ◌&&◌, ◌||◌, and-true, and-false, or-false, and-not_self}
+use mathlib.Core.Bool.{Bool, false}
 use mathlib.Core.List.{List}
 use Prim.Native.Nat.{ℕ, zero, suc, ◌+◌, ◌*◌, ◌≤◌, ◌<◌}
 use native.Mathlib.Decide.{ℕ_discrete, dec_lt}
 use native.Mathlib.Omega.{arith}
 use lib.Dec.{eqb}
 use lib.ListN.{get_or}
-use borrow.Author.Tests.{eq-eqb, ne_eqb}
 use Rattle.basics.proofs.Bools.{clash}
 use Rattle.radios.specs.Bytes.{Bits}
 use Rattle.radios.specs.Member.{member}
@@ -15,12 +14,14 @@ use Rattle.radios.proofs.Laws.{member-empty}
 use Rattle.site.specs.Map.{linked}
 use Rattle.refusals.specs.Refusals.{finding}
 use Rattle.refusals.specs.declared.Finding.TheVariants.{Sound}
-use Rattle.checks.specs.Checked.{AgreeTo, joined}
+use Rattle.checks.specs.Checked.{AgreeTo}
 use Rattle.radios.specs.Links.{RowsOfLinks}
-use Rattle.checks.proofs.Rows.{in_rows}
 use Rattle.checks.proofs.Cells.{bad_in, not_bad, linked-apart, linked-itself, linked-outside}
-use Rattle.checks.proofs.Spreading.{swap}
 use Rattle.checks.proofs.Scan.{found_none, sound_even}
+
+-- v is in row u
+abbrev pub in_rows : List ℕ → ℕ → ℕ → Bool
+in_rows rows u v = member v (get_or rows u 0)
 
 -- what is known before row i: the rows before it are the links, and a radio is in another's row where the other is in its row
 pub record Mirrored (table : List ℕ) (n : ℕ) (rows : List ℕ) (i : ℕ) : Type 0 where
@@ -50,41 +51,6 @@ module _ (table : List ℕ) (n i : ℕ) (rows : List ℕ) (row : ℕ) (inside : 
       pick : Dec (i ≡ j) → linked table n i j ≡ member j (get_or rows i 0)
       pick (yes q) = linked-itself table n i j q ∙ sym (m.rest i j (omega arith) (omega arith))
       pick (no q) = sound_even table n e i j ∙ sym (m.whole j i (omega arith)) ∙ m.even j i
-
-  -- where it agrees, the radios after i join
-  module _ (new : ℕ) (rows' : List ℕ) (New-is : (j : ℕ) → member j new ≡ (member j row && not (member j (get_or rows i 0)))) (agree : AgreeTo row (get_or rows i 0) i)
-      (joined_is : (u v : ℕ) → in_rows rows' u v ≡ joined i new rows u v) where
-    -- no radio up to i is new
-    low : (j : ℕ) → j ≤ i → member j new ≡ false
-    low j l = New-is j ∙ ap (λ (b : Bool). b && not (member j (get_or rows i 0))) (agree j l) ∙ and-not_self (member j (get_or rows i 0))
-
-    -- the new ones and those told are the row
-    together : (v : ℕ) → (member v new || member v (get_or rows i 0)) ≡ member v row
-    together v = pick (dec_lt i v)
-      where
-        pick : Dec (i < v) → (member v new || member v (get_or rows i 0)) ≡ member v row
-        pick (yes l) = simp (New-is v, m.rest i v (omega arith) (omega arith), and-true, or-false)
-        pick (no l) = simp (low v (omega arith)) (sym (agree v (omega arith)))
-
-    -- so row i holds the links of radio i
-    own : (v : ℕ) → in_rows rows' i v ≡ linked table n i v
-    own v = joined_is i v ∙ simp (eq-eqb i i refl, low i (omega arith), and-false) (together v) ∙ row_is v
-
-    -- the rows before it stay
-    before : (u v : ℕ) → u < i → in_rows rows' u v ≡ in_rows rows u v
-    before u v l = joined_is u v ∙ simp (ne_eqb u i (λ e. omega arith), low u (omega arith), and-false)
-
-    pub mirrored_more : Mirrored table n rows' (i + 1)
-    mirrored_more =
-        record {
-          whole = λ u v l. whole u v l (dec_lt u i);
-          even = λ u v. joined_is u v ∙ swap (eqb u i && member v new) (eqb v i && member u new) (in_rows rows u v) ∙ ap (λ (b : Bool). (eqb v i && member u new) || ((eqb u i && member v new) || b)) (m.even u v) ∙ sym (joined_is v u);
-          rest = λ u v p q. joined_is u v ∙ simp (ne_eqb u i (λ e. omega arith), ne_eqb v i (λ e. omega arith)) (m.rest u v (omega arith) (omega arith));
-        }
-      where
-        whole : (u v : ℕ) → u < i + 1 → Dec (u < i) → in_rows rows' u v ≡ linked table n u v
-        whole u v l (yes p) = before u v p ∙ m.whole u v p
-        whole u v l (no p) = let e : u ≡ i = omega arith in rw e (own v)
 
 -- ---- what it comes to
 

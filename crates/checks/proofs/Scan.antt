@@ -1,5 +1,5 @@
 -- The scan of the table: what is known after each cell, and what it comes to. Assumes nothing.
-use mathlib.Core.Path.{◌≡◌, refl, sym, ap, ap₂, ◌∙◌}
+use mathlib.Core.Path.{◌≡◌, refl, sym, ap, ◌∙◌}
 use mathlib.Core.Bool.{true, false}
 use mathlib.Core.List.{List}
 use Prim.Native.Nat.{ℕ, zero, suc, ◌+◌, ◌*◌, ◌/◌, ◌%◌, ◌≤◌, ◌<◌, zero-le}
@@ -24,17 +24,6 @@ use Rattle.checks.proofs.Cells.{finding_in, bad_in, good_mirror, at_place, earli
 -- what is known before the turn `here`: the cells before it are good. The scan meets a pair of radios at its lower radio's row
 abbrev pub Scanned : List ℕ → ℕ → ℕ → Type 0
 Scanned table n here = (a b : ℕ) → a ≤ b → b < n → most_radios * a + b < here → bad_in table n a b ≡ false
-
--- one turn more
-pub scanned_more : (table : List ℕ) (n i j : ℕ) → n ≤ most_radios → j < n → Scanned table n (most_radios * i + j) → bad_in table n i j ≡ false → Scanned table n (most_radios * i + (j + 1))
-scanned_more table n i j small within s fine a b p q l = pick (dec_lt (most_radios * a + b) (most_radios * i + j))
-  where
-    pick : Dec (most_radios * a + b < most_radios * i + j) → bad_in table n a b ≡ false
-    pick (yes d) = s a b p q d
-    pick (no d) =
-        let x : a ≡ i = omega arith in
-        let y : b ≡ j = omega arith in
-        ap₂ (bad_in table n) x y ∙ fine
 
 -- ---- what the scan comes to
 

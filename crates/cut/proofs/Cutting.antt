@@ -8,7 +8,7 @@ use native.Mathlib.Numerals.{add-one}
 use native.Mathlib.Omega.{arith}
 use lib.Dec.{eqb}
 use lib.ListN.{length, get_or, take, drop, set, length-take, length-map, drop_of_length-le}
-use lib.Seq.{drop-cons, take-suc, take-length}
+use lib.Seq.{drop-cons, take-suc}
 use Rattle.site.specs.Map.{Site, in_half, out_half}
 use Rattle.tokens.specs.Rules.{Entered}
 use Rattle.tokens.specs.Run.{at_link, cut_item, item_of, cut_of}
@@ -54,6 +54,3 @@ module _ (site : Site) (R : Entered) (paths : List (List ℕ)) (old cut : List �
       let joined : cut_of site R (take i paths) ++ (item ∷ []) ≡ cut_of site R (take (i + 1) paths) =
       rw (its, add-one, take-suc paths i [] l) (sym (map-append (item_of site R) (take i paths) (get_or paths i [] ∷ []))) in
       store_next cut old (cut_of site R (take i paths)) i item e (simp (length-map, length-take) (omega arith)) room ∙ ap (λ (front : List ℕ). front ++ drop (i + 1) old) joined
-
-  pub all_items : (i count : ℕ) → i ≡ count → length paths ≡ count → Itemed site R paths old i cut → cut ≡ cut_of site R paths ++ drop count old
-  all_items i count last all e = e ∙ rw (last, ← all, take-length paths) refl

@@ -1,14 +1,9 @@
 -- `checks::passing` meets its contract. Assumes nothing.
 use mathlib.Core.Path.{◌≡◌, refl, ◌∙◌}
 use mathlib.Core.Bool.{Bool, true, false, not, ◌&&◌}
-use native.Mathlib.Omega.{arith}
 use lib.Dec.{eqb, ltb}
 use Rattle.site.specs.Map.{handheld, passes}
-use Rattle.checks.proofs.passing.Statement.{statement}
-use Rattle.checks.proofs.passing.Tie as tie
-
-abbrev past : (P : Type 0) → P → P
-past P p = p
+use Rattle.checks.proofs.passing.Goals as goal
 
 -- the order in which they are asked does not matter
 any_order : (in_map not_s not_T ordinary : Bool) → (not_T && (not_s && (in_map && ordinary))) ≡ (in_map && not_s && not_T && ordinary)
@@ -21,12 +16,9 @@ any_order false true false o = refl
 any_order false false true o = refl
 any_order false false false o = refl
 
-returns : tie.Need-returns
+pub returns : goal.returns
 unfolding passes
 returns c = λ site source sink ordinary v.
-    let at = (past tie.Start (search)).args in
-    let less-S = (past tie.After-without (search)).without.ensures in
-    c.without2.ensures v ∙ rw (less-S v, ordinary v, source, sink) (any_order (ltb v site.n) (not (eqb v at.s)) (not (eqb v at.t)) (not (handheld site.table site.n v)))
-
-pub passing-spec : {M : Type 1} → statement M
-passing-spec = tie.close (tie.spec (λ c κs. omega arith) (λ c κs. omega arith) returns)
+    let at = c.args in
+    let less-S = c.without.ensures in
+    c.without-2.ensures v ∙ rw (less-S v, ordinary v, source, sink) (any_order (ltb v site.n) (not (eqb v at.s)) (not (eqb v at.t)) (not (handheld site.table site.n v)))
