@@ -1,5 +1,5 @@
 -- The rows of specs/Rows.antt are what the definitions say, computed: the ten rows, the three with handhelds, and the case Q given whole. Assumes nothing.
-use Rattle.std.proofs.Common.{◌≡◌, refl, [], ◌∷◌, map, ◌-◌}
+use Rattle.std.proofs.Common.{◌≡◌, refl, [], ◌∷◌, map}
 use Rattle.basics.specs.Counting.{sum, first_within}
 use Rattle.site.specs.Map.{linked, links, handheld, exists, passes, inside_step, link_step, step, A}
 use Rattle.refusals.specs.Refusals.{call_of, cell_finding, finding_at, first_bad, finding, map_verdict, pair_verdict, room_verdict, verdict}

@@ -1,6 +1,6 @@
 -- "Maps on both sides of each edge" of document 01, the last row as document 02 amends it: the ten rows, three maps with handhelds, and the case Q with k = 3 given whole. proofs/Rows.antt proves them.
-use Rattle.std.specs.Prelude.{Bool, true, false, List, [], ◌∷◌, map, ℕ, ◌+◌, ◌-◌, ◌*◌, eqb, length, set, replicate}
-use Rattle.site.specs.Map.{linked, links, handheld, A}
+use Rattle.std.specs.Prelude.{Bool, true, false, List, [], ◌∷◌, ℕ, ◌+◌, ◌-◌, ◌*◌, eqb, length, set, replicate}
+use Rattle.site.specs.Map.{A}
 use Rattle.refusals.specs.Refusals.{Call, call_of}
 use Rattle.outcome.specs.declared.Outcome.{Outcome}
 use Rattle.outcome.specs.Leaves.{outcome, log_left, paths_left, cut_left}

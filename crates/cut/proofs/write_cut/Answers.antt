@@ -36,8 +36,7 @@ cut_item-requires c =
 
 pub loop-i-preserved : goal.loop-i-preserved
 loop-i-preserved c =
-    let known = stands (goal.at.loop-i-preserved c).After-part_at-part in
-    (
+    let known = stands (goal.at.loop-i-preserved c).After-part_at-part in (
       omega arith,
       length-set c.loop-i.cut c.loop-i.i _ ∙ c.loop-i.invariant.1,
       λ ps held. (known ps held).next,
