@@ -25,7 +25,7 @@ const PATH_BYTES: usize = 96;
 
 const CUT_BYTES: usize = 16;
 // What every byte holds before a call: a byte that the call forgets shows.
-const OLD_BYTE: u8 = 0x_aa;
+const OLD_BYTE: u8 = 0xAA;
 // The largest prime below 2^32: the sum of a log never wraps.
 const SUM_MODULUS: u64 = 4294967291;
 

@@ -90,7 +90,7 @@ pub fn from(x: u64, i: usize) -> u64
 // The set with every radio raised by i.
 pub fn raised(x: u64, i: usize) -> u64
     requires i_bound { i < 64 }
-    requires i_bound_2 { x * 2 ^ i < 2 ^ 64 }
+    requires fits { x * 2 ^ i < 2 ^ 64 }
     ensures { (j : ℕ) → member j result ≡ (leb i j && member (j - i) x) }
 {
     x << i

@@ -186,7 +186,7 @@ fn set_route(routes: &mut [Route], v: usize, route: Route)
 // Sets the first n records to those that the fields tell; the others stay.
 fn fill(routes: &mut [Route], n: usize, fields: &[u8])
     requires n_in_bounds { n ≤ length routes.old }
-    requires n_in_bounds_2 { record_fields * n ≤ length fields.now }
+    requires fields_fit { record_fields * n ≤ length fields.now }
     ensures { routes.new ≡ routes_in fields.now n ++ drop n routes.old }
 {
     let mut v = 0;

@@ -14,7 +14,7 @@ const NAME_BYTES: usize = 4096;
 // More than the words of any error of the system take.
 const WORDS_BYTES: usize = 256;
 // What every byte holds before a call: a byte that the call forgets shows.
-const OLD_BYTE: u8 = 0x_aa;
+const OLD_BYTE: u8 = 0xAA;
 
 fn write_sheet_of(out: &impl Print, text: &[u8]) {
     let mut sheet = [OLD_BYTE; sheet_text::SHEET_ROOM];

@@ -11,5 +11,5 @@ use Rattle.checks.proofs.eights.Goals as goal
 pub loop-k-init : goal.loop-k-init
 loop-k-init c = (omega arith, λ j. member-empty j ∙ sym (simp (le-ltb j 0 (omega arith))))
 
-pub raised-requires-clause-i_bound_2 : goal.raised-requires-clause-i_bound_2
-raised-requires-clause-i_bound_2 c = lt_of_lt_of_le (shl_lt 8 (8 * c.loop-k.k) c.of_eight.ensures.upper_bound) (pow_mono {j = 64} (omega arith))
+pub raised-requires-clause-fits : goal.raised-requires-clause-fits
+raised-requires-clause-fits c = lt_of_lt_of_le (shl_lt 8 (8 * c.loop-k.k) c.of_eight.ensures.upper_bound) (pow_mono {j = 64} (omega arith))

@@ -6,4 +6,4 @@ use Rattle.radios.proofs.Laws.{member-shl}
 use Rattle.radios.proofs.raised.Goals as goal
 
 pub returns : goal.returns
-returns c = λ j. ap (member j) (mod-eq_of_lt c.requires.i_bound_2) ∙ member-shl j c.args.i c.args.x
+returns c = λ j. ap (member j) (mod-eq_of_lt c.requires.fits) ∙ member-shl j c.args.i c.args.x
