@@ -6,6 +6,7 @@ ghost use Rattle.std.specs.Prelude.{◌≡◌, ◌≤◌, length};
 ghost use Rattle.streams.specs.Counts.{IsPrefixLen};
 
 use outcome::Outcome;
+use std::io;
 use streams::{put, put_decimal, put_hexadecimal, read_full};
 
 // Room for twice the calls that there are.
@@ -384,11 +385,12 @@ fn survey_lines(out: &impl Print, text: &[u8], log: &mut [u8], paths: &mut [u8],
     }
 }
 
-fn main(rt: HostRuntime) {
+fn main(rt: HostRuntime) -> io::Result<()> {
     let mut text = [0u8; TEXT_BYTES];
     let mut log = [OLD_BYTE; LOG_BYTES];
     let mut paths = [OLD_BYTE; PATH_BYTES];
     let mut cut = [OLD_BYTE; CUT_BYTES];
-    let length = read_full(&mut rt.stdin(), &mut text);
+    let length = read_full(&mut rt.stdin(), &mut text)?;
     survey_lines(&rt, &text[..length], &mut log, &mut paths, &mut cut);
+    Ok(())
 }

@@ -2,9 +2,10 @@
 // standard error.
 #![tactic(auto)]
 
-ghost use Rattle.sheet.specs.Reading.{Within, Brings, BringsAll};
+ghost use Rattle.sheet.specs.Reading.{Within, IfWhole};
 
 use std::io::Read;
+use streams::read_full;
 
 // One byte more than a text may have, so that a longer one is seen.
 const TEXT_BYTES: usize = text_survey::MOST_BYTES + 1;
@@ -16,33 +17,15 @@ enum Reading {
     Failed,
 }
 
-// One read. That it failed is told apart from the end of the input, which brings no bytes.
-fn read_some<R: Read>(input: &mut R, text: &mut [u8]) -> Reading
-    ensures within { Within result text.new }
-    ensures bytes { Brings (R.remaining input.old) (R.remaining input.new) result text.new }
-{
-    match input.read(text) {
-        Ok(count) => Reading::Whole(count),
-        Err(_) => Reading::Failed,
-    }
-}
-
-// Reads until the input ends or text is full. Half a capture must not become a sheet, so a read that fails is the answer.
+// Half a capture must not become a sheet, so a read that fails is the answer.
 fn read_text<R: Read>(input: &mut R, text: &mut [u8]) -> Reading
     ensures within { Within result text.new }
-    ensures bytes { BringsAll (R.remaining input.old) (R.remaining input.new) result text.new }
+    ensures whole { IfWhole (R.remaining input.old) (R.remaining input.new) result text.new }
 {
-    let mut done = 0;
-    while done < text.len() {
-        let Reading::Whole(more) = read_some(input, &mut text[done..]) else {
-            return Reading::Failed;
-        };
-        if more == 0 {
-            break;
-        }
-        done += more;
+    match read_full(input, text) {
+        Ok(length) => Reading::Whole(length),
+        Err(_) => Reading::Failed,
     }
-    Reading::Whole(done)
 }
 
 // Where nobody hears, nothing more can be done.

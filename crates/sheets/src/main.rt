@@ -51,36 +51,40 @@ fn open(rt: &HostRuntime, name: &[u8]) -> io::Result<File> {
     }
 }
 
-fn read_and_write(rt: &HostRuntime, name: &[u8]) {
-    let mut text = [OLD_BYTE; TEXT_BYTES];
-    let length = match open(rt, name) {
-        Ok(mut file) => read_full(&mut file, &mut text),
+// Where a file cannot be opened it has no sheet; one that cannot be read ends it all.
+fn read_and_write(rt: &HostRuntime, name: &[u8]) -> io::Result<()> {
+    let mut file = match open(rt, name) {
+        Ok(file) => file,
         Err(error) => {
             fail(rt, name, &error);
-            return;
+            return Ok(());
         }
     };
+    let mut text = [OLD_BYTE; TEXT_BYTES];
+    let length = read_full(&mut file, &mut text)?;
     write_sheet_of(rt, &text[..length]);
+    Ok(())
 }
 
 // The sheet of the sample that argument i names. A name that finds no room is read as an empty one. Is there such an argument?
-fn answer(rt: &HostRuntime, i: usize) -> bool {
+fn answer(rt: &HostRuntime, i: usize) -> io::Result<bool> {
     let mut name = [0u8; NAME_BYTES];
     let length = match rt.arg(i, &mut name) {
         Ok(length) => length,
         Err(FillError::TooLong) => 0,
-        Err(FillError::NotPresent) => return false,
+        Err(FillError::NotPresent) => return Ok(false),
     };
     put(rt, &name[..length]);
     put(rt, b"\n");
-    read_and_write(rt, &name[..length]);
-    true
+    read_and_write(rt, &name[..length])?;
+    Ok(true)
 }
 
-fn main(rt: HostRuntime) {
+fn main(rt: HostRuntime) -> io::Result<()> {
     for i in 1..usize::MAX {
-        if !answer(&rt, i) {
+        if !answer(&rt, i)? {
             break;
         }
     }
+    Ok(())
 }

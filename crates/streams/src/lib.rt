@@ -1,10 +1,10 @@
 // What the programs write and read by.
 #![tactic(auto)]
 
-ghost use Rattle.std.specs.Prelude.{take};
-ghost use Rattle.std.specs.Io.KnownBytes.{Consumes};
-ghost use Rattle.streams.specs.Counts.{IsPrefixLen};
+ghost use Rattle.std.specs.Prelude.{IfOk};
+ghost use Rattle.streams.specs.Counts.{BringsAll};
 
+use std::io;
 use std::io::Read;
 
 // What cannot be written is left out.
@@ -21,20 +21,17 @@ pub fn put_hexadecimal(out: &impl Print, byte: u8) {
     let _ = print!(out; "{byte:02x}");
 }
 
-// How many bytes it brought, up to the end of the input, a read that fails, or the end of the room for them.
-pub fn read_full<R: Read>(input: &mut R, buffer: &mut [u8]) -> usize
-    ensures in_bounds { IsPrefixLen result buffer.new }
-    ensures bytes { Consumes (R.remaining input.old) (R.remaining input.new) (take result buffer.new) }
+// Reads until the input ends or the buffer is full, and tells how many bytes there are. A read that fails is the answer.
+pub fn read_full<R: Read>(input: &mut R, buffer: &mut [u8]) -> io::Result<usize>
+    ensures { IfOk result (λ count. BringsAll (R.remaining input.old) (R.remaining input.new) count buffer.new) }
 {
     let mut done = 0;
     while done < buffer.len() {
-        let Ok(more) = input.read(&mut buffer[done..]) else {
-            break;
-        };
+        let more = input.read(&mut buffer[done..])?;
         if more == 0 {
             break;
         }
         done += more;
     }
-    done
+    Ok(done)
 }
