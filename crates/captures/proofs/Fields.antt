@@ -81,9 +81,6 @@ pub record NumberRead (field : List ℕ) (so_far i : ℕ) : Type 0 where
   pub says : value 0 field ≡ value so_far (drop i field)
   pub digits : all_digits field ≡ all_digits (drop i field)
 
-pub read_none : (field : List ℕ) → NumberRead field 0 0
-read_none field = record { within = omega arith; small = omega arith; says = refl; digits = refl }
-
 module _ (field : List ℕ) (so_far i : ℕ) (known : NumberRead field so_far i) (more : i < length field) where
   abbrev pub then : ℕ
   then = 10 * so_far + (get_or field i 0 - 48)

@@ -1,6 +1,6 @@
 -- What each stage of the step leaves, by what its parts left. Assumes nothing.
 use mathlib.Core.Path.{◌≡◌, refl, sym, ap, ap₂, ◌∙◌, subst}
-use mathlib.Core.Bool.{Bool, true, false, not, ◌&&◌, ◌||◌, false≢true}
+use mathlib.Core.Bool.{true, false, not, ◌&&◌, ◌||◌}
 use mathlib.Core.List.{List}
 use Prim.Native.Nat.{ℕ, suc, ◌+◌, ◌*◌, ◌%◌, ◌≤◌, ◌<◌}
 use native.Mathlib.Decide.{dec_lt}
@@ -15,7 +15,6 @@ use Rattle.site.specs.Map.{Site, in_half, out_half}
 use Rattle.tokens.specs.Rules.{Plan, Marks, Entered, Notes, Waiting, waits, State, searching, granting, won, sends, message, rising, gets, pass_on, release, carry, tries, reversed, grant, decline, go_on, inner_step, next_place, next_marked}
 use Rattle.tokens.specs.declared.Kind.TheVariants.{Pdt, PdtB, Pmt, Done}
 use Rattle.tokens.specs.declared.Message.{Message}
-use Rattle.tokens.specs.declared.Answer.{Answer}
 use Rattle.tokens.specs.declared.Answer.TheVariants.{Sent, End}
 use Rattle.openings.specs.Rows.{across, Open, Joined, Untried, NextRadio, or_none}
 use Rattle.openings.proofs.Walks.{pair}
@@ -328,11 +327,3 @@ pub untried_once_asked : (plan : Plan) (marks : Marks) (h place v left y left' :
     → ((j : ℕ) → member j left' ≡ (not (eqb j v) && member j left)) → Untried plan.site marks h (tried plan.site h y) left'
 untried_once_asked plan marks h place v left y left' order half all next is less =
     rw (is, tried-across plan.site h v) (untried_less plan marks h place left order half all v left' next less)
-
--- a message ends no run
-abbrev is_end : Answer → Bool
-is_end (Sent message) = false
-is_end End = true
-
-pub sent_goes_on : (stepped : Stepped) (message : Message) (machine : Machine) → stepped ≡ sent_by message machine → stepped.answer ≡ End → ⊥
-sent_goes_on stepped message machine s e = false≢true (ap (λ (t : Stepped). is_end t.answer) (sym s) ∙ ap is_end e)

@@ -3,12 +3,11 @@ use mathlib.Core.Path.{◌≡◌, refl, sym, ap, ◌∙◌, fun_ext}
 use mathlib.Core.Bool.{Bool, true, false, not, cond, ◌&&◌, ◌||◌, true≢false, false≢true, not-not}
 use mathlib.Core.List.{List}
 use mathlib.Core.Logic.{◌⊎◌, inl, inr}
-use Prim.Native.Nat.{ℕ, ◌+◌, ◌/◌, ◌%◌, ◌<◌}
+use Prim.Native.Nat.{ℕ, ◌+◌, ◌/◌, ◌%◌}
 use native.Mathlib.Decide.{ℕ_discrete}
 use native.Mathlib.Omega.{arith}
 use lib.Dec.{eqb}
-use lib.ListN.{get_or, set, length}
-use lib.Seq.{get_or-set_same, get_or-set_other}
+use lib.ListN.{get_or}
 use borrow.Author.Tests.{eq-eqb, ne_eqb, eqb-true}
 use Rattle.basics.proofs.Bools.{clash, or_cases, and_left, and_right, or_left, or_right, not_true→false, both_ways}
 use Rattle.radios.specs.Member.{member}
@@ -21,15 +20,6 @@ use Rattle.openings.proofs.Walks.{pair, across-is, across-radio, walk_step}
 -- radio v joins row h or leaves it, and nothing else changes
 abbrev pub Toggled : ℕ → ℕ → List ℕ → List ℕ → Type 0
 Toggled h v rows rows' = (a b : ℕ) → member b (get_or rows' a 0) ≡ cond (eqb a h && eqb b v) (not (member b (get_or rows a 0))) (member b (get_or rows a 0))
-
--- a store of one row
-pub row_toggled : (rows : List ℕ) (h v x : ℕ) → h < length rows → ((j : ℕ) → member j x ≡ cond (eqb j v) (not (member j (get_or rows h 0))) (member j (get_or rows h 0)))
-    → Toggled h v rows (set rows h x)
-row_toggled rows h v x l f a b = pick (ℕ_discrete a h)
-  where
-    pick : Dec (a ≡ h) → member b (get_or (set rows h x) a 0) ≡ cond (eqb a h && eqb b v) (not (member b (get_or rows a 0))) (member b (get_or rows a 0))
-    pick (yes e) = rw (e, eq-eqb h h refl, get_or-set_same rows h x 0 l) (f b)
-    pick (no e) = ap (member b) (get_or-set_other rows h a x 0 e) ∙ sym (simp (ne_eqb a h e))
 
 -- ---- tests
 

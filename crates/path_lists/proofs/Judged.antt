@@ -49,14 +49,6 @@ module _ (n S T : ℕ) (before : List ℕ) (taken : Bool) (path : List ℕ) wher
 
 -- ---- the loop over the paths
 
--- the part of a path that the list holds lies in it
-pub record Lies (list : List ℕ) (part : Part) : Type 0 where
-  pub ordered : part.start ≤ part.end
-  pub inside : part.end ≤ length list
-
-pub part_lies : (list : List ℕ) (at : ℕ) (part : Part) → Inside list at → part ≡ part_at list at → Lies list part
-part_lies list at part inside read = rw read record { ordered = omega arith; inside = inside }
-
 -- so many paths at the front of the list are whole and sound, after what has been seen
 abbrev pub sound_from : ℕ → ℕ → ℕ → List ℕ → Bool → ℕ → List ℕ → Bool
 sound_from n S T before taken count list = readable count list && sound_after n S T before taken (paths_read count list)

@@ -33,10 +33,6 @@ packed_member (suc k) f bits (suc j) =
 abbrev word : ℕ → ℕ → ℕ → ℕ → ℕ
 word a b c d = a + 256 * b + 65536 * c + 16777216 * d
 
--- four bits a byte apart make a small number
-pub spaced-small : (bytes : List ℕ) (at : ℕ) → Bits bytes → spaced bytes at ≤ 16843009
-spaced-small bytes at bits = omega (arith, bits at, bits (at + 1), bits (at + 2), bits (at + 3))
-
 -- the digits from 24 to 31
 middle : (high mid low : ℕ) → low < 16777216 → mid < 256 → (4294967296 * high + 16777216 * mid + low) / 16777216 % 256 ≡ mid
 middle high mid low p q =

@@ -70,21 +70,6 @@ member-from x i j hx = ap (member j) (mod-eq_of_lt (lt_of_le_of_lt (div-mul-le_s
     pick (yes l) = cut_below j i (x / 2 ^ i) l ∙ sym (ap (λ (b : Bool). not b && member j x) (lt-ltb j i l))
     pick (no n) = cut_keeps j i x (omega arith) ∙ sym (ap (λ (b : Bool). not b && member j x) (le-ltb j i (omega arith)))
 
--- the first member of what is left is the first from i on
-pub first_of_from : (k i x y r : ℕ) → i ≤ k → ((j : ℕ) → member j y ≡ (not (ltb j i) && member j x))
-    → First (λ j. member j y) 0 k r → First (λ j. member j x) i k r
-first_of_from k i x y r hi left w =
-    let below : (j : ℕ) → j < i → member j y ≡ false = λ j l. left j ∙ ap (λ (b : Bool). not b && member j x) (lt-ltb j i l) in
-    let kept : (j : ℕ) → i ≤ j → member j x ≡ member j y = λ j l. sym (left j ∙ ap (λ (b : Bool). not b && member j x) (le-ltb j i l)) in
-    let not-below : r < i → ⊥ = λ l. true≢false (sym (w.found (omega arith)) ∙ below r l) in
-    let from : i ≤ r = omega arith in
-    record {
-      from = from;
-      within = w.within;
-      before = λ j l h. kept j l ∙ w.before j (omega arith) h;
-      found = λ h. kept r from ∙ w.found h;
-    }
-
 -- ---- the first member taken out: `x & (x - 1)`
 
 -- a set with a member is not 0, so that 1 can be taken from it

@@ -75,9 +75,6 @@ module _ (fields : List ℕ) (v : ℕ) (route : Route) where
 
 -- ---- the records of one path
 
-pub none_laid : {number : ℕ} {path fields : List ℕ} → PathLaid number path fields 0 fields
-none_laid {number} {path} {fields} = record { route = λ v. rw (le-ltb (place_in path v) 0 (omega arith)) refl }
-
 -- one radio more: it has that place alone, and no other radio has it
 pub one_more_laid : {number : ℕ} {path before : List ℕ} {i : ℕ} {middle after : List ℕ} {route : Route} → Different path → i < length path → PathLaid number path before i middle → route ≡ record_at number path i
     → Put middle (get_or path i 0) route after → PathLaid number path before (i + 1) after
@@ -97,10 +94,6 @@ one_more_laid {number} {path} {before} {i} {middle} {after} {route} different be
 
             same : ltb (place_in path v) i ≡ ltb (place_in path v) (i + 1)
             same = both_ways _ _ (λ e. lt-ltb (place_in path v) (i + 1) (omega (arith, ltb-true (place_in path v) i e))) (λ e. lt-ltb (place_in path v) i (omega (arith, ltb-true (place_in path v) (i + 1) e, not_here)))
-
--- the whole path
-pub all_laid : {number : ℕ} {path before : List ℕ} {i : ℕ} {after : List ℕ} → i ≡ length path → PathLaid number path before i after → PathLaid number path before (length path) after
-all_laid all laid = rw (← all) laid
 
 -- ---- the records of all paths
 

@@ -1,10 +1,10 @@
 -- The list where i records are set and the others stay: how it starts, its length, and that to set one record more gives the next. Assumes nothing.
 use mathlib.Core.Path.{◌≡◌, refl, sym, ◌∙◌, ap}
-use Prim.Native.Nat.{ℕ, zero, suc, ◌<◌, ◌≤◌}
+use Prim.Native.Nat.{ℕ, zero, suc, ◌<◌}
 use native.Mathlib.Nat.{add-zero, add-suc}
 use mathlib.Core.List.{List, [], ◌∷◌, ◌++◌}
 use lib.ListN.{length, set, drop, get_or, length-append}
-use lib.Seq.{length_front, length-take-le, drop-cons, set_at, append_snoc}
+use lib.Seq.{drop-cons, set_at, append_snoc}
 use Rattle.route_records.specs.declared.Route.{Route}
 use Rattle.route_records.specs.Filling.{route_at, routes_in}
 
@@ -20,9 +20,6 @@ length_routes fields (suc i) =
 pub filled_none : (fields : List ℕ) (ys : List Route) → filled fields ys 0 ≡ ys
 unfolding routes_in
 filled_none fields ys = refl
-
-pub length_filled : (fields : List ℕ) (ys : List Route) (i : ℕ) → i ≤ length ys → length (filled fields ys i) ≡ length ys
-length_filled fields ys i room = length_front ys (routes_in fields i) i (length_routes fields i ∙ sym (length-take-le i ys room))
 
 pub filled_next : (fields : List ℕ) (ys : List Route) (i : ℕ) → i < length ys → set (filled fields ys i) i (route_at fields i) ≡ filled fields ys (suc i)
 unfolding routes_in

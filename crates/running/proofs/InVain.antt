@@ -2,7 +2,7 @@
 use mathlib.Core.Path.{◌≡◌, refl, sym, ap, ◌∙◌, subst}
 use mathlib.Core.Bool.{Bool, true, false, not, ◌&&◌, ◌||◌, and-false, or-false, false≢true}
 use mathlib.Core.List.{List}
-use Prim.Native.Nat.{ℕ, suc, ◌+◌, ◌*◌, ◌^◌, ◌≤◌, ◌<◌}
+use Prim.Native.Nat.{ℕ, ◌+◌, ◌*◌, ◌^◌, ◌≤◌, ◌<◌}
 use native.Mathlib.Decide.{ℕ_discrete, dec_lt}
 use native.Mathlib.Omega.{arith}
 use lib.Bits.{bit_or}
@@ -17,11 +17,10 @@ use Rattle.site.specs.Limits.{most_radios}
 use Rattle.site.specs.Map.{in_half, out_half, radio_of}
 use Rattle.tokens.specs.Rules.{Plan, Notes, message}
 use Rattle.tokens.specs.Run.{notes_of}
-use Rattle.tokens.specs.declared.Kind.{Kind}
 use Rattle.tokens.specs.declared.Kind.TheVariants.{Pdt, PdtB}
 use Rattle.tokens.specs.declared.Message.{Message}
 use Rattle.message_log.specs.Bytes.{RoomFor}
-use Rattle.message_log.specs.Put.{Writable, Appends}
+use Rattle.message_log.specs.Put.{Appends}
 use Rattle.openings.specs.Rows.{across}
 use Rattle.openings.proofs.Walks.{from_out}
 use Rattle.openings.proofs.Order.{next_other}
@@ -218,9 +217,6 @@ module _ (u left others own : ℕ) (are-others : (j : ℕ) → member j others �
       go false false = refl
 
 -- ---- room in the log
-
-pub writable : (log : List ℕ) (at : ℕ) (sent : Message) (kind : Kind) (from to round : ℕ) → sent ≡ message kind from to → RoomFor (suc at) log → round < 256 → from < 256 → to < 256 → Writable log at sent round
-writable log at sent kind from to round e room r f t = rw e (record { room = room; round_fits = r; from_fits = f; to_fits = t })
 
 -- what the PDTs in vain lean on
 pub asks_ready : {task : Task} {budget : ℕ} {links : List ℕ} {begin : Beginning} {bytes : List ℕ} {machine : Machine} {rows entered halves : List ℕ} {sent : ℕ} → Partly task budget links begin bytes machine rows entered halves sent

@@ -124,10 +124,3 @@ from_last_more {before} {after} {x} {end} {digits} {rest} {done} place f h e =
       together =
           sym (append_assoc (last_digits (digits - (done + 1)) (rest / 10)) (byte ∷ []) f.tail) ∙ ap (λ (n : ℕ). last_digits n rest ++ f.tail) (sym first) ∙ f.together;
     }
-
-pub from_last_all : {before after : List ℕ} {x at digits rest done : ℕ} → done ≡ digits → FromLast before after x (at + digits) digits rest done → Written before after at (decimal x) (at + digits)
-from_last_all {before} {after} {x} {at} {digits} {rest} {done} e f =
-    let none : digits - done ≡ 0 = omega arith in
-    let start : at + digits - done ≡ at = omega arith in
-    let all : f.tail ≡ decimal x = sym (ap (λ (n : ℕ). last_digits n rest ++ f.tail) none) ∙ f.together in
-    subst (λ (bytes : List ℕ). Written before after at bytes (at + digits)) all (subst (λ (n : ℕ). Written before after n f.tail (at + digits)) start f.written)

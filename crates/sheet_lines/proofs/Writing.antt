@@ -107,6 +107,3 @@ partly_more {bytes = bytes} rest p e w =
 pub partly_all : {before after : List ℕ} {at : ℕ} {whole left : List ℕ} {next : ℕ} → PartWritten before after at whole left next → left ≡ [] → Written before after at whole next
 partly_all {before} {after} {at} {whole} {left} {next} p e =
     subst (λ (l : List ℕ). Written before after at l next) (sym (append-nil p.done) ∙ ap (λ (l : List ℕ). p.done ++ l) (sym e) ∙ p.together) p.written
-
-pub partly_kept : {before after : List ℕ} {at : ℕ} {whole left : List ℕ} {next : ℕ} → PartWritten before after at whole left next → length after ≡ length before
-partly_kept p = kept p.written

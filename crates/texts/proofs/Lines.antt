@@ -12,20 +12,11 @@ use lib.Seq.{length-take-le}
 use borrow.Author.Tests.{eq-eqb, ne_eqb}
 use Rattle.captures.specs.Words.{line_feed}
 use Rattle.captures.specs.Text.{pieces}
-use Rattle.captures.specs.Capture.{head_of, line_of, is_head, is_record, right_shape, wrong_line}
-use Rattle.captures.specs.declared.Head.{Head}
-use Rattle.captures.specs.declared.Line.{Line}
+use Rattle.captures.specs.Capture.{head_of, is_head, right_shape, wrong_line}
 use Rattle.captures.specs.Reading.{end_of, part, pieces_from}
 use Rattle.captures.proofs.Pieces.{pieces-from, pieces-past, next_piece, end_between}
 
 -- ---- one line
-
--- its shape, by what it says
-pub right_head : (number : ℕ) (line : List ℕ) (said : Head) → number ≡ 1 → said ≡ head_of line → right_shape number line ≡ is_head said
-right_head number line said e h = rw (eq-eqb number 1 e, h)
-
-pub right_line : (number : ℕ) (line : List ℕ) (said : Line) → (number ≡ 1 → ⊥) → said ≡ line_of line → right_shape number line ≡ is_record said
-right_line number line said d h = rw (ne_eqb number 1 d, h)
 
 -- a line that is ended by a line feed: there is a piece after it
 line_ended : (text : List ℕ) (at end number : ℕ) → at ≤ length text → end ≡ end_of text at line_feed → end < length text

@@ -84,15 +84,8 @@ module _ (n : ℕ) (table : List ℕ) where
     pub fault_none : (get_or table place 0 ≡ 1 → ⊥) → fault_in n table line ≡ false
     fault_none d = fault_cell line is ord ∙ rw (← e) (ne_eqb (get_or table place 0) 1 d)
 
-pub added_not : {n : ℕ} {table : List ℕ} {line : Line} → fault_in n table line ≡ true → Added n table line table false
-added_not bad = record { told = rw bad; joined = refl }
-
 pub added : {n : ℕ} {table : List ℕ} {line : Line} {after : List ℕ} → fault_in n table line ≡ false → after ≡ with_line n table line → Added n table line after true
 added good e = record { told = rw good; joined = e }
-
--- what a line does, by what it says
-pub added_said : {n : ℕ} {table : List ℕ} {line said : Line} {after : List ℕ} {good : Bool} → line ≡ said → Added n table said after good → Added n table line after good
-added_said e a = rw e a
 
 -- ---- line after line
 
