@@ -2,7 +2,7 @@
 use mathlib.Core.Path.{◌≡◌, refl, ap, ap₂, ◌∙◌}
 use mathlib.Core.Bool.{Bool, true, false, not, ◌&&◌, ◌||◌, and-false}
 use mathlib.Core.List.{List, [], ◌∷◌}
-use Prim.Native.Nat.{ℕ, suc, ◌+◌, ◌-◌, ◌*◌, ◌≤◌, ◌<◌}
+use Prim.Native.Nat.{ℕ, ◌+◌, ◌-◌, ◌*◌, ◌≤◌, ◌<◌}
 use native.Mathlib.Numerals.{add-one}
 use native.Mathlib.Omega.{arith}
 use lib.Dec.{eqb}
@@ -10,22 +10,20 @@ use lib.ListN.{length, get_or, drop}
 use lib.Seq.{drop-cons}
 use borrow.Author.Tests.{eq-eqb, ne_eqb, eqb-true, lt-ltb, le-ltb}
 use Rattle.basics.proofs.Bools.{clash, and_left, and_right}
+use lib.Pointwise.{pointwise}
+use Rattle.std.proofs.Common.{Some, None, rules, tests}
+use Rattle.std.specs.Char.{is_ascii_digit}
 use Rattle.captures.specs.Text.{same, is_digit, all_digits, value, most_number, number_of}
-use Rattle.captures.specs.declared.Number.TheVariants.{Is, NoNumber}
 
 -- ---- words
 
--- words of different lengths differ
-pub same-long : (field word : List ℕ) → (length field ≡ length word → ⊥) → same field word ≡ false
+-- the same bytes, as `==` tells it
+pub same_told : (field word : List ℕ) → pointwise eqb field word ≡ same field word
 unfolding same
-same-long [] [] d = absurd (d refl)
-same-long [] (y ∷ word) d = refl
-same-long (x ∷ field) [] d = refl
-same-long (x ∷ field) (y ∷ word) d = rw (same-long field word (λ e. d (ap suc e)), and-false)
-
-pub same-nil : same [] [] ≡ true
-unfolding same
-same-nil = refl
+same_told [] [] = refl
+same_told [] (y ∷ word) = refl
+same_told (x ∷ field) [] = refl
+same_told (x ∷ field) (y ∷ word) = ap (λ (b : Bool). eqb x y && b) (same_told field word)
 
 -- and a word is known by its bytes
 pub same-is : (field word : List ℕ) → same field word ≡ true → field ≡ word
@@ -35,29 +33,14 @@ same-is [] (y ∷ word) e = clash e refl
 same-is (x ∷ field) [] e = clash e refl
 same-is (x ∷ field) (y ∷ word) e = ap₂ (λ (z : ℕ) (rest : List ℕ). z ∷ rest) (eqb-true x y (and_left (eqb x y) (same field word) e)) (same-is field word (and_right (eqb x y) (same field word) e))
 
--- one byte of both
-module _ (field word : List ℕ) (i : ℕ) (p : i < length field) (q : i < length word) where
-  same_at : same (drop i field) (drop i word) ≡ (eqb (get_or field i 0) (get_or word i 0) && same (drop (i + 1) field) (drop (i + 1) word))
-  unfolding same
-  same_at = rw (add-one, drop-cons field i 0 p, drop-cons word i 0 q)
-
-  pub same_here : get_or field i 0 ≡ get_or word i 0 → same (drop i field) (drop i word) ≡ same (drop (i + 1) field) (drop (i + 1) word)
-  same_here e = same_at ∙ ap (λ (b : Bool). b && same (drop (i + 1) field) (drop (i + 1) word)) (eq-eqb (get_or field i 0) (get_or word i 0) e)
-
-  pub differ_here : (get_or field i 0 ≡ get_or word i 0 → ⊥) → same (drop i field) (drop i word) ≡ false
-  differ_here d = same_at ∙ ap (λ (b : Bool). b && same (drop (i + 1) field) (drop (i + 1) word)) (ne_eqb (get_or field i 0) (get_or word i 0) d)
-
 -- ---- numbers
 
 -- digits are the bytes from 48 to 57
-pub digit_low : (x : ℕ) → x < 48 → is_digit x ≡ false
-digit_low x p = rw (lt-ltb x 48 p)
-
-pub digit_high : (x : ℕ) → 57 < x → is_digit x ≡ false
-digit_high x p = rw (le-ltb x 58 p, and-false)
-
 pub digit_between : (x : ℕ) → 48 ≤ x → x ≤ 57 → is_digit x ≡ true
 digit_between x p q = rw (le-ltb x 48 p, lt-ltb x 58 (omega arith))
+
+pub digit_told : (x : ℕ) → is_ascii_digit x ≡ is_digit x
+digit_told x = search (rules, tests)
 
 -- one more byte of a number
 value-at : (before : ℕ) (bytes : List ℕ) (i : ℕ) → i < length bytes → value before (drop i bytes) ≡ value (10 * before + (get_or bytes i 0 - 48)) (drop (i + 1) bytes)
@@ -95,14 +78,14 @@ module _ (field : List ℕ) (so_far i : ℕ) (known : NumberRead field so_far i)
       }
 
   -- a byte that is no digit
-  pub no_digit : is_digit (get_or field i 0) ≡ false → number_of field ≡ NoNumber
+  pub no_digit : is_digit (get_or field i 0) ≡ false → number_of field ≡ None
   unfolding number_of
   no_digit digit =
       let none : all_digits field ≡ false = known.digits ∙ digits-at field i more ∙ ap (λ (b : Bool). b && all_digits (drop (i + 1) field)) digit in
       simp (none, and-false)
 
   -- a number that is too large whatever follows
-  pub too_large : most_number < then → number_of field ≡ NoNumber
+  pub too_large : most_number < then → number_of field ≡ None
   unfolding number_of
   too_large large =
       let most : most_number < value 0 field = omega (arith, known.says, value-at so_far field i more, value_grows then (drop (i + 1) field)) in
@@ -110,7 +93,7 @@ module _ (field : List ℕ) (so_far i : ℕ) (known : NumberRead field so_far i)
 
 -- every byte read
 pub all_read : (field : List ℕ) (so_far i : ℕ) → NumberRead field so_far i → drop i field ≡ [] → (length field ≡ 0 → ⊥)
-    → (eqb (length field) 1 || not (eqb (get_or field 0 0) 48)) ≡ true → number_of field ≡ Is so_far
+    → (eqb (length field) 1 || not (eqb (get_or field 0 0) 48)) ≡ true → number_of field ≡ Some so_far
 unfolding number_of value all_digits
 all_read field so_far i known end some first =
     let said : value 0 field ≡ so_far = known.says ∙ ap (value so_far) end in
@@ -118,10 +101,10 @@ all_read field so_far i known end some first =
     simp (said, digits, first, ne_eqb (length field) 0 some, le-ltb most_number so_far known.small)
 
 -- nothing, or a leading zero
-pub no_bytes : (field : List ℕ) → length field ≡ 0 → number_of field ≡ NoNumber
+pub no_bytes : (field : List ℕ) → length field ≡ 0 → number_of field ≡ None
 unfolding number_of
 no_bytes field e = simp (eq-eqb (length field) 0 e)
 
-pub leading_zero : (field : List ℕ) → (length field ≡ 1 → ⊥) → eqb (get_or field 0 0) 48 ≡ true → number_of field ≡ NoNumber
+pub leading_zero : (field : List ℕ) → (length field ≡ 1 → ⊥) → eqb (get_or field 0 0) 48 ≡ true → number_of field ≡ None
 unfolding number_of
 leading_zero field d e = simp (ne_eqb (length field) 1 d, e, and-false)

@@ -1,18 +1,12 @@
 -- Lines, fields and numbers: what a text is made of.
-use Rattle.std.specs.Prelude.{Bool, true, false, not, ◌&&◌, ◌||◌, cond, List, [], ◌∷◌, ◌++◌, ℕ, zero, suc, ◌+◌, ◌-◌, ◌*◌, ◌/◌, ◌%◌, eqb, ltb, length, get_or}
-use Rattle.captures.specs.declared.Number.{Number}
-use Rattle.captures.specs.declared.Number.TheVariants.{Is, NoNumber}
+use Rattle.std.specs.Prelude.{Bool, true, false, not, ◌&&◌, ◌||◌, cond, Option, None, Some, List, [], ◌∷◌, ◌++◌, ℕ, zero, suc, ◌+◌, ◌-◌, ◌*◌, ◌/◌, ◌%◌, eqb, ltb, length, get_or}
+use Rattle.std.specs.List.{slice_split}
 
 -- ---- pieces between separators
 
-abbrev pub in_front : ℕ → List (List ℕ) → List (List ℕ)
-in_front x [] = (x ∷ []) ∷ []
-in_front x (piece ∷ rest) = (x ∷ piece) ∷ rest
-
 -- what stands between the separators; without one the whole is one piece
 unfoldable pub pieces : ℕ → List ℕ → List (List ℕ)
-pieces separator [] = [] ∷ []
-pieces separator (x ∷ bytes) = cond (eqb x separator) ([] ∷ pieces separator bytes) (in_front x (pieces separator bytes))
+pieces separator bytes = slice_split (λ x. eqb x separator) bytes
 
 -- the same bytes
 unfoldable pub same : List ℕ → List ℕ → Bool
@@ -42,8 +36,9 @@ most_number = 65535
 abbrev pub is_number : List ℕ → Bool
 is_number bytes = not (eqb (length bytes) 0) && all_digits bytes && (eqb (length bytes) 1 || not (eqb (get_or bytes 0 0) 48)) && not (ltb most_number (value 0 bytes))
 
-unfoldable pub number_of : List ℕ → Number
-number_of bytes = cond (is_number bytes) (Is (value 0 bytes)) NoNumber
+-- the number that a field says, if it is one
+unfoldable pub number_of : List ℕ → Option ℕ
+number_of bytes = cond (is_number bytes) (Some (value 0 bytes)) None
 
 -- ---- a number in decimal
 

@@ -1,10 +1,10 @@
 // One capture read from a text: its lines, fields and numbers.
 #![tactic(auto)]
 
-ghost use Rattle.std.specs.Prelude.{◌≡◌, ◌≤◌, length};
-ghost use Rattle.captures.specs.Text.{same, number_of};
+ghost use Rattle.std.specs.Prelude.{◌≡◌, [], ◌∷◌, length, MatchOption};
+ghost use Rattle.captures.specs.Text.{pieces, number_of};
 ghost use Rattle.captures.specs.Capture.{head_of, line_of};
-ghost use Rattle.captures.specs.Reading.{end_of, field_at, after_link, after_hand};
+ghost use Rattle.captures.specs.Reading.{Parted, Filled, numbers_of};
 
 // Fields are parted by this byte.
 pub const TAB: u8 = b'\t';
@@ -15,188 +15,109 @@ pub const LINE_FEED: u8 = b'\n';
 // A number of the sheet is no larger than this.
 const MOST_NUMBER: usize = 65535;
 
-// What the first line of a capture says, if it has the right shape: capture number, radios, the two ends, paths wanted.
-#[derive(Clone, Copy)]
-pub enum Head {
-    Net {
-        capture: usize,
-        n: usize,
-        s: usize,
-        t: usize,
-        k: usize,
-    },
-    NoNet,
+// What the first line of a capture says: its number, the radios, the two ends, the paths wanted.
+#[derive(Clone, Copy, Debug, PartialEq, Eq)]
+pub struct FirstLine {
+    pub capture: usize,
+    pub n: usize,
+    pub s: usize,
+    pub t: usize,
+    pub k: usize,
 }
 
-// What any other line says, if it has the right shape: a link between two radios, or a radio that is a handheld.
-#[derive(Clone, Copy)]
+// What any other line says: a link between two radios, or a radio that is a handheld.
+#[derive(Clone, Copy, Debug, PartialEq, Eq)]
 pub enum Line {
     Link(usize, usize),
     Hand(usize),
-    NoRecord,
 }
 
-// What a field says as a number.
-#[derive(Clone, Copy)]
-pub enum Number {
-    Is(usize),
-    NoNumber,
-}
-
-// What a field of a line holds: its number, and where the next field starts, which is past the line's end if this is the last.
-#[derive(Clone, Copy)]
-enum Field {
-    Reads(usize, usize),
-    NoField,
-}
-
-// The first place from `at` on that holds the separator, or the length.
-pub fn end_of(bytes: &[u8], at: usize, separator: u8) -> usize
-    requires { at ≤ length bytes.now }
-    ensures { result ≡ end_of bytes.now at separator }
+// What stands before the first separator and what stands after it; none where there is no separator.
+pub fn split_at_first(bytes: &[u8], separator: u8) -> Option<(&[u8], &[u8])>
+    ensures { MatchOption result (pieces separator bytes.now ≡ bytes.now ∷ []) (λ parts. Parted separator bytes.now parts.0.now parts.1.now) }
 {
-    let mut place = at;
-    while place < bytes.len() {
-        if bytes[place] == separator {
-            return place;
-        }
-        place += 1;
-    }
-    place
-}
-
-// Are the field's bytes the word's?
-fn is_word(field: &[u8], word: &[u8]) -> bool
-    ensures { result ≡ same field.now word.now }
-{
-    if field.len() != word.len() {
-        return false;
-    }
-    let mut i = 0;
-    while i < word.len() {
-        if field[i] != word[i] {
-            return false;
-        }
-        i += 1;
-    }
-    true
+    let place = bytes.iter().position(|byte| *byte == separator)?;
+    Some((&bytes[..place], &bytes[place + 1..]))
 }
 
 // What the field says as a number. A value that is too large only grows with the digits after it, so reading ends there
-// and the value never outgrows its type.
-fn number_of(field: &[u8]) -> Number
+// and the value never outgrows its type. The library's `parse` would take a sign and leading zeros.
+fn number_of(field: &[u8]) -> Option<usize>
     ensures { result ≡ number_of field.now }
 {
-    if field.len() == 0 {
-        return Number::NoNumber;
+    if field.is_empty() {
+        return None;
     }
     if field.len() > 1 && field[0] == b'0' {
-        return Number::NoNumber;
+        return None;
     }
     let mut value = 0;
-    let mut i = 0;
-    while i < field.len() {
-        let digit = field[i];
-        if digit < b'0' || digit > b'9' {
-            return Number::NoNumber;
+    for digit in field {
+        if !digit.is_ascii_digit() {
+            return None;
         }
-        value = 10 * value + (digit - b'0') as usize;
+        value = 10 * value + (*digit - b'0') as usize;
         if value > MOST_NUMBER {
-            return Number::NoNumber;
+            return None;
         }
-        i += 1;
     }
-    Number::Is(value)
+    Some(value)
 }
 
-// The number in the field of a line that starts at `at`; there is no such field past the line's end.
-fn field_at(line: &[u8], at: usize) -> Field
-    ensures { result ≡ field_at line.now at }
+// The fields of a text, if they are as many numbers as there is room for. It stands apart from `numbers_of`,
+// where it was tried first: under a const parameter the proof of the loop did not close.
+fn fill_numbers(text: &[u8], numbers: &mut [usize]) -> Option<()>
+    ensures { Filled text.now (length numbers.old) result numbers.new }
 {
-    if at > line.len() {
-        return Field::NoField;
+    let mut fields = text.split(|byte| *byte == TAB);
+    for number in numbers {
+        *number = number_of(fields.next()?)?;
     }
-    let end = end_of(line, at, TAB);
-    let Number::Is(value) = number_of(&line[at..end]) else {
-        return Field::NoField;
-    };
-    Field::Reads(value, end + 1)
+    match fields.next() {
+        Some(_) => None,
+        None => Some(()),
+    }
+}
+
+// What the fields of a text say, if they are so many numbers.
+fn numbers_of<const N: usize>(text: &[u8]) -> Option<[usize; N]>
+    ensures { result ≡ numbers_of N text.now }
+{
+    let mut numbers = [0; N];
+    fill_numbers(text, &mut numbers)?;
+    Some(numbers)
 }
 
 // What a line says as the first of a capture.
-pub fn head_of(line: &[u8]) -> Head
+pub fn head_of(line: &[u8]) -> Option<FirstLine>
     ensures { result ≡ head_of line.now }
 {
-    let end = end_of(line, 0, TAB);
-    if !is_word(&line[..end], b"net") {
-        return Head::NoNet;
+    let (word, rest) = split_at_first(line, TAB)?;
+    if word != b"net".as_slice() {
+        return None;
     }
-    let Field::Reads(capture, at_n) = field_at(line, end + 1) else {
-        return Head::NoNet;
-    };
-    let Field::Reads(n, at_s) = field_at(line, at_n) else {
-        return Head::NoNet;
-    };
-    let Field::Reads(s, at_t) = field_at(line, at_s) else {
-        return Head::NoNet;
-    };
-    let Field::Reads(t, at_k) = field_at(line, at_t) else {
-        return Head::NoNet;
-    };
-    let Field::Reads(k, past) = field_at(line, at_k) else {
-        return Head::NoNet;
-    };
-    if past <= line.len() {
-        return Head::NoNet;
-    }
-    Head::Net {
+    let [capture, n, s, t, k] = numbers_of::<5>(rest)?;
+    Some(FirstLine {
         capture,
         n,
         s,
         t,
         k,
-    }
-}
-
-// What a line says whose word is link and whose other fields start at `at`: they are two radios.
-fn after_link(line: &[u8], at: usize) -> Line
-    ensures { result ≡ after_link line.now at }
-{
-    let Field::Reads(u, at_v) = field_at(line, at) else {
-        return Line::NoRecord;
-    };
-    let Field::Reads(v, past) = field_at(line, at_v) else {
-        return Line::NoRecord;
-    };
-    if past <= line.len() {
-        return Line::NoRecord;
-    }
-    Line::Link(u, v)
-}
-
-// What a line says whose word is hand and whose other fields start at `at`: they are one radio.
-fn after_hand(line: &[u8], at: usize) -> Line
-    ensures { result ≡ after_hand line.now at }
-{
-    let Field::Reads(v, past) = field_at(line, at) else {
-        return Line::NoRecord;
-    };
-    if past <= line.len() {
-        return Line::NoRecord;
-    }
-    Line::Hand(v)
+    })
 }
 
 // What a line says as any other of a capture.
-pub fn line_of(line: &[u8]) -> Line
+pub fn line_of(line: &[u8]) -> Option<Line>
     ensures { result ≡ line_of line.now }
 {
-    let end = end_of(line, 0, TAB);
-    if is_word(&line[..end], b"link") {
-        return after_link(line, end + 1);
+    let (word, rest) = split_at_first(line, TAB)?;
+    if word == b"link".as_slice() {
+        let [u, v] = numbers_of::<2>(rest)?;
+        return Some(Line::Link(u, v));
     }
-    if is_word(&line[..end], b"hand") {
-        return after_hand(line, end + 1);
+    if word == b"hand".as_slice() {
+        let [v] = numbers_of::<1>(rest)?;
+        return Some(Line::Hand(v));
     }
-    Line::NoRecord
+    None
 }

@@ -1,13 +1,11 @@
 -- Cells gathered into a set: eight more, one more. Assumes nothing.
-use mathlib.Core.Path.{◌≡◌, refl, ap, ◌∙◌}
-use mathlib.Core.Bool.{Bool, ◌&&◌, ◌||◌, and-true, and-false, or-false}
-use mathlib.Core.List.{List}
-use Prim.Native.Nat.{ℕ, ◌+◌, ◌<◌}
-use native.Mathlib.Decide.{ℕ_discrete, dec_lt}
+use mathlib.Core.Path.{◌≡◌}
+use mathlib.Core.Bool.{Bool, ◌&&◌, ◌||◌, or-false}
+use Prim.Native.Nat.{ℕ, ◌+◌, ◌-◌, ◌<◌}
+use native.Mathlib.Decide.{dec_lt}
 use native.Mathlib.Omega.{arith}
-use lib.Dec.{eqb, ltb}
-use borrow.Author.Tests.{eq-eqb, ne_eqb, lt-ltb, le-ltb}
-use Rattle.radios.specs.Bytes.{is_one}
+use lib.Dec.{ltb, leb}
+use borrow.Author.Tests.{lt-ltb, le-ltb, le-leb, lt-leb}
 use Rattle.radios.specs.Member.{member}
 use Rattle.radios.proofs.Laws.{member-empty}
 
@@ -15,17 +13,18 @@ use Rattle.radios.proofs.Laws.{member-empty}
 abbrev pub SoFar : (ℕ → Bool) → ℕ → ℕ → Type 0
 SoFar test k set = (j : ℕ) → member j set ≡ (ltb j k && test j)
 
-pub none_so_far : (test : ℕ → Bool) → SoFar test 0 0
-none_so_far test j = member-empty j ∙ simp (le-ltb j 0 (omega arith))
+pub none_so_far : (test : ℕ → Bool) (set : ℕ) → set ≡ 0 → SoFar test 0 set
+none_so_far test set empty j = rw (empty, member-empty j) (simp (le-ltb j 0 (omega arith)))
 
-pub one_more : (test : ℕ → Bool) (k set set' : ℕ) → SoFar test k set → ((j : ℕ) → member j set' ≡ ((test k && eqb j k) || member j set)) → SoFar test (k + 1) set'
-one_more test k set set' before more j = more j ∙ ap (λ (b : Bool). (test k && eqb j k) || b) (before j) ∙ pick (dec_lt j k) (ℕ_discrete j k)
+-- eight more, read from the place at and raised by as much
+pub eight_more : (test : ℕ → Bool) (at set eight raised set' : ℕ) → SoFar test at set
+    → ((j : ℕ) → member j eight ≡ (ltb j 8 && test (at + j)))
+    → ((j : ℕ) → member j raised ≡ (leb at j && member (j - at) eight))
+    → ((j : ℕ) → member j set' ≡ (member j raised || member j set))
+    → SoFar test (at + 8) set'
+eight_more test at set eight raised set' before read moved joins j = rw (joins j, moved j, before j, read (j - at)) (pick (dec_lt j at) (dec_lt j (at + 8)))
   where
-    pick : Dec (j < k) → Dec (j ≡ k) → ((test k && eqb j k) || (ltb j k && test j)) ≡ (ltb j (k + 1) && test j)
-    pick (yes l) q = simp (ne_eqb j k (λ e. omega arith), lt-ltb j k l, lt-ltb j (k + 1) (omega arith), and-false)
-    pick (no l) (yes e) = rw e (simp (eq-eqb k k refl, le-ltb k k (omega arith), lt-ltb k (k + 1) (omega arith), and-true, or-false))
-    pick (no l) (no e) = simp (ne_eqb j k e, le-ltb j k (omega arith), le-ltb j (k + 1) (omega arith), and-false)
-
--- the first k cells from the start on, as a set
-abbrev pub RowSoFar : List ℕ → ℕ → ℕ → ℕ → Type 0
-RowSoFar table start k row = SoFar (λ j. is_one table (start + j)) k row
+    pick : Dec (j < at) → Dec (j < at + 8) → ((leb at j && (ltb (j - at) 8 && test (at + (j - at)))) || (ltb j at && test j)) ≡ (ltb j (at + 8) && test j)
+    pick (yes l) q = simp (lt-leb at j l, lt-ltb j at l, lt-ltb j (at + 8) (omega arith))
+    pick (no l) (yes q) = let e : at + (j - at) ≡ j = omega arith in rw e (simp (le-leb at j (omega arith), le-ltb j at (omega arith), lt-ltb (j - at) 8 (omega arith), lt-ltb j (at + 8) q, or-false))
+    pick (no l) (no q) = simp (le-leb at j (omega arith), le-ltb j at (omega arith), le-ltb (j - at) 8 (omega arith), le-ltb j (at + 8) (omega arith))

@@ -1,5 +1,6 @@
 pub mod Cells
 pub mod Gathering
+pub mod Largest
 pub mod Spreading
 pub mod Scan
 pub mod Mirrored

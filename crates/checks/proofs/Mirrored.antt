@@ -6,14 +6,16 @@ use Prim.Native.Nat.{ℕ, zero, suc, ◌+◌, ◌*◌, ◌≤◌, ◌<◌}
 use native.Mathlib.Decide.{ℕ_discrete, dec_lt}
 use native.Mathlib.Omega.{arith}
 use lib.Dec.{eqb}
-use lib.ListN.{get_or}
+use Rattle.std.specs.Prelude.{Ok}
+use lib.ListN.{length, get_or, replicate}
+use Rattle.std.proofs.lemmas.List.{get_or_default, get_or-replicate, get_or_past, length-replicate}
+use Rattle.site.specs.Limits.{most_radios}
 use Rattle.basics.proofs.Bools.{clash}
 use Rattle.radios.specs.Bytes.{Bits}
 use Rattle.radios.specs.Member.{member}
 use Rattle.radios.proofs.Laws.{member-empty}
 use Rattle.site.specs.Map.{linked}
 use Rattle.refusals.specs.Refusals.{finding}
-use Rattle.refusals.specs.declared.Finding.TheVariants.{Sound}
 use Rattle.checks.specs.Checked.{AgreeTo}
 use Rattle.radios.specs.Links.{RowsOfLinks}
 use Rattle.checks.proofs.Cells.{bad_in, not_bad, linked-apart, linked-itself, linked-outside}
@@ -29,28 +31,32 @@ pub record Mirrored (table : List ℕ) (n : ℕ) (rows : List ℕ) (i : ℕ) : T
   pub even : (u v : ℕ) → in_rows rows u v ≡ in_rows rows v u
   pub rest : (u v : ℕ) → i ≤ u → i ≤ v → in_rows rows u v ≡ false
 
--- before the first row
-pub mirrored_none : (table : List ℕ) (n : ℕ) (rows : List ℕ) → ((u : ℕ) → get_or rows u 0 ≡ 0) → Mirrored table n rows 0
-mirrored_none table n rows empty =
+-- before the first row, in empty rows
+pub mirrored_none : (table : List ℕ) (n : ℕ) (rows : List ℕ) (none : ℕ) → none ≡ 0 → rows ≡ replicate most_radios none → Mirrored table n rows 0
+mirrored_none table n rows none empty cleared =
     record {
       whole = λ u v l. absurd (omega arith);
-      even = λ u v. none u v ∙ sym (none v u);
-      rest = λ u v p q. none u v;
+      even = λ u v. none_in u v ∙ sym (none_in v u);
+      rest = λ u v p q. none_in u v;
     }
   where
-    none : (u v : ℕ) → in_rows rows u v ≡ false
-    none u v = ap (member v) (empty u) ∙ member-empty v
+    all_empty : (u : ℕ) → Dec (u < most_radios) → get_or rows u 0 ≡ 0
+    all_empty u (yes l) = rw (cleared, get_or-replicate most_radios u none 0 l) empty
+    all_empty u (no l) = get_or_past rows u 0 (omega (arith, ap length cleared, length-replicate most_radios none))
+
+    none_in : (u v : ℕ) → in_rows rows u v ≡ false
+    none_in u v = ap (member v) (all_empty u (dec_lt u most_radios)) ∙ member-empty v
 
 -- row i is gathered
 module _ (table : List ℕ) (n i : ℕ) (rows : List ℕ) (row : ℕ) (inside : i < n) (m : Mirrored table n rows i)
     (row_is : (j : ℕ) → member j row ≡ linked table n i j) where
-  -- in a sound table it agrees with what the rows before it said
-  pub sound_agrees : finding table n ≡ Sound → AgreeTo row (get_or rows i 0) i
-  sound_agrees e j l = row_is j ∙ pick (ℕ_discrete i j)
+  -- in a sound table it agrees with what the rows before it said, whatever is read past the last row
+  pub sound_agrees : (past : ℕ) → i < length rows → finding table n ≡ Ok tt → AgreeTo row (get_or rows i past) i
+  sound_agrees past within sound j l = row_is j ∙ pick (ℕ_discrete i j) ∙ ap (member j) (get_or_default rows i 0 past within)
     where
       pick : Dec (i ≡ j) → linked table n i j ≡ member j (get_or rows i 0)
       pick (yes q) = linked-itself table n i j q ∙ sym (m.rest i j (omega arith) (omega arith))
-      pick (no q) = sound_even table n e i j ∙ sym (m.whole j i (omega arith)) ∙ m.even j i
+      pick (no q) = sound_even table n sound i j ∙ sym (m.whole j i (omega arith)) ∙ m.even j i
 
 -- ---- what it comes to
 
@@ -76,7 +82,7 @@ module _ (table : List ℕ) (n : ℕ) (rows : List ℕ) (bits : Bits table) (m :
           same_bits _ _ (bits (a * n + b)) (bits (b * n + a))
           (sym (linked-apart table n a b p q d) ∙ sym (m.whole a b p) ∙ m.even a b ∙ m.whole b a q ∙ linked-apart table n b a q p (λ e. d (sym e)))
 
-  pub mirrored_sound : finding table n ≡ Sound
+  pub mirrored_sound : finding table n ≡ Ok tt
   mirrored_sound = found_none table n (λ a b p q l. no_bad a b (omega arith) q)
 
   pub mirrored_rows : RowsOfLinks table n rows

@@ -6,18 +6,17 @@ use Prim.Native.Nat.{ℕ, zero, suc, ◌+◌, ◌*◌, ◌/◌, ◌%◌, ◌≤�
 use native.Mathlib.Decide.{dec_lt}
 use native.Mathlib.Nat.{mod-lt, div-add-mod', div-lt_iff_lt-mul}
 use native.Mathlib.Omega.{arith}
+use Rattle.std.specs.Prelude.{Ok, is_err}
 use lib.ListN.{length, get_or, get_or-eq_default}
 use borrow.Author.Tests.{lt-ltb, le-ltb}
 use Rattle.basics.specs.Counting.{first_from}
 use Rattle.basics.proofs.Counting.{first_is}
 use Rattle.radios.specs.Bytes.{Bits}
 use Rattle.refusals.specs.Conditions.{no_bit}
-use Rattle.refusals.specs.Refusals.{cell_finding, is_bad, bad_cell, first_bad, finding}
+use Rattle.refusals.specs.Refusals.{Finding, cell_finding, bad_cell, first_bad, finding}
 use Rattle.refusals.proofs.Exactly.{sound_table}
 use Rattle.site.proofs.Formula.{Even}
 use Rattle.refusals.proofs.Accepted.{even_links}
-use Rattle.refusals.specs.declared.Finding.{Finding}
-use Rattle.refusals.specs.declared.Finding.TheVariants.{Sound}
 use Rattle.site.specs.Limits.{most_radios}
 use Rattle.checks.proofs.Cells.{finding_in, bad_in, good_mirror, at_place, earlier}
 
@@ -50,12 +49,12 @@ sound_places table n here end most s order place l =
     let b : ℕ = place % n in
     let in_row : a < n = (div-lt_iff_lt-mul pos).1 (omega arith) in
     let in-column : b < n = mod-lt place pos in
-    ap (bad_cell table n) (sym (div-add-mod' place n)) ∙ ap is_bad (at_place table n a b in-column)
+    ap (bad_cell table n) (sym (div-add-mod' place n)) ∙ ap is_err (at_place table n a b in-column)
     ∙ sound_below table n here s a b in_row in-column (order a b in_row in-column (omega (arith, div-add-mod' place n)))
 
--- the finding at a cell, read off the table at its place and at its mirror cell's
-pub tested : (table : List ℕ) (n i j at mirror : ℕ) (found : Finding) → at ≡ i * n + j → mirror ≡ j * n + i → found ≡ cell_finding at (get_or table at 0) (get_or table mirror 0) → finding_in table n i j ≡ found
-tested table n i j at mirror found e f said = rw (said, e, f) refl
+-- the finding at a cell, as it is judged by its place, what it holds and what its mirror cell holds
+pub tested : (table : List ℕ) (n i j place cell mirror : ℕ) {found : Finding} → place ≡ i * n + j → cell ≡ get_or table (i * n + j) 0 → mirror ≡ get_or table (j * n + i) 0 → found ≡ cell_finding place cell mirror → finding_in table n i j ≡ found
+tested table n i j place cell mirror p c m told = rw (told, p, c, m) refl
 
 -- the scan stopped at a bad cell: it is the first
 pub found_bad : (table : List ℕ) (n i j : ℕ) → n ≤ most_radios → i ≤ j → j < n → i * n + j < n * n → Scanned table n (most_radios * i + j)
@@ -69,13 +68,13 @@ found_bad table n i j small from within inside s e =
       within = omega arith;
       before = λ place p q.
           sound_places table n (most_radios * i + j) (i * n + j) (omega arith) s (λ a b x y l. earlier n a b i j small y within l) place q;
-      found = λ p. ap is_bad (at_place table n i j within) ∙ e;
+      found = λ p. ap is_err (at_place table n i j within) ∙ e;
     })
     in
     rw (first, lt-ltb (i * n + j) (n * n) inside) (at_place table n i j within)
 
 -- the scan went through: there is no bad cell
-pub found_none : (table : List ℕ) (n : ℕ) → Scanned table n (most_radios * n + n) → finding table n ≡ Sound
+pub found_none : (table : List ℕ) (n : ℕ) → Scanned table n (most_radios * n + n) → finding table n ≡ Ok tt
 unfolding finding first_bad
 found_none table n s =
     let first : first_from (bad_cell table n) 0 (n * n) ≡ n * n =
@@ -92,7 +91,7 @@ found_none table n s =
 -- ---- what a sound table says
 
 -- its cells are 0 or 1
-pub sound_bits : (table : List ℕ) (n : ℕ) → length table ≡ n * n → finding table n ≡ Sound → Bits table
+pub sound_bits : (table : List ℕ) (n : ℕ) → length table ≡ n * n → finding table n ≡ Ok tt → Bits table
 sound_bits table n long e at = pick (dec_lt at (n * n)) (dec_lt 1 (get_or table at 0))
   where
     pick : Dec (at < n * n) → Dec (1 < get_or table at 0) → get_or table at 0 ≤ 1
@@ -101,5 +100,5 @@ sound_bits table n long e at = pick (dec_lt at (n * n)) (dec_lt 1 (get_or table 
     pick p (no q) = omega arith
 
 -- and its links go both ways
-pub sound_even : (table : List ℕ) (n : ℕ) → finding table n ≡ Sound → Even table n
+pub sound_even : (table : List ℕ) (n : ℕ) → finding table n ≡ Ok tt → Even table n
 sound_even table n e = even_links table n (sound_table table n e)

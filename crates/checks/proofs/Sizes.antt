@@ -2,11 +2,12 @@
 use mathlib.Core.Path.{◌≡◌, refl, ap, ◌∙◌}
 use mathlib.Core.Bool.{Bool, false}
 use mathlib.Core.List.{List}
-use Prim.Native.Nat.{ℕ, zero, suc, ◌+◌, ◌≤◌}
+use Prim.Native.Nat.{ℕ, zero, suc, ◌+◌, ◌≤◌, ◌<◌}
 use native.Mathlib.Decide.{ℕ_discrete}
 use native.Mathlib.Numerals.{add-one}
 use native.Mathlib.Omega.{arith}
-use lib.ListN.{get_or}
+use lib.ListN.{length, get_or, take}
+use Rattle.std.proofs.lemmas.List.{get_or_default, get_or-take, length-take}
 use Rattle.basics.specs.Counting.{one_if, sum, count}
 use Rattle.basics.proofs.Counting.{sum-ext}
 use Rattle.site.specs.Map.{linked, degree}
@@ -15,6 +16,15 @@ use Rattle.radios.specs.Member.{member}
 use Rattle.radios.specs.Links.{RowsOfLinks}
 use Rattle.checks.specs.Checked.{members, size}
 use Rattle.checks.proofs.Cells.{linked-outside}
+
+-- what is counted in a row that is read, whatever is read past the last, is its size
+pub size_read : (rows : List ℕ) (u past counted : ℕ) → counted ≡ members (get_or rows u past) → u < length rows → counted ≡ size rows u
+size_read rows u past counted told below = told ∙ ap members (get_or_default rows u past 0 below)
+
+-- and so of the first n rows
+pub size_read_of : (rows : List ℕ) (n u row counted : ℕ) → counted ≡ members row → row ≡ get_or (take n rows) u row → u < length (take n rows) → counted ≡ size rows u
+size_read_of rows n u row counted told is below =
+    size_read rows u row counted (told ∙ ap members (is ∙ get_or-take n rows u row (omega (arith, length-take n rows)))) (omega (arith, length-take n rows))
 
 -- one number more
 pub sum_more : (f : ℕ → ℕ) (n : ℕ) → sum f (n + 1) ≡ sum f n + f n

@@ -16,15 +16,15 @@ use Rattle.site.specs.Map.{Site, links, degree, passes, A}
 use Rattle.site.proofs.Formula.{Even, degrees_twice_links, steps_and_degrees, two_degrees, few_steps}
 use Rattle.site.proofs.Steps.{passes-outside}
 use Rattle.message_log.specs.Bytes.{message_bytes}
-use Rattle.refusals.specs.Refusals.{Call, is_bad, finding, passed, no_size, map_verdict, pair_verdict, room_verdict, verdict, number}
-use Rattle.refusals.specs.declared.Finding.TheVariants.{Sound}
-use Rattle.refusals.specs.declared.Verdict.{Verdict}
-use Rattle.refusals.specs.declared.Verdict.TheVariants.{Accepted, Radios, TableLength, Links, Ends, Wanted, Log, Lists}
-use Rattle.refusals.proofs.Exactly.{bad_number, map_exact, pair_exact, told_by_map, told_by_pair, told_by_room}
-use Rattle.refusals.proofs.Accepted.{SoundMap, sound_map, GoodPair, good_pair}
-use Rattle.checks.specs.Checked.{members, size, Countable, most_steps, no_map, MapJudged, Judged}
+use Rattle.refusals.specs.Refusals.{Call, Verdict, finding, no_size, map_verdict, pair_verdict, room_verdict, verdict, number}
+use Rattle.refusals.specs.declared.Refusal.{Refusal}
+use Rattle.refusals.specs.declared.Refusal.TheVariants.{Radios, TableLength, Links, Ends, Wanted, Log, Lists}
+use Rattle.std.specs.Prelude.{Result, Ok, Err}
+use Rattle.refusals.proofs.Exactly.{some_number, map_exact, pair_exact, told_by_map, told_by_pair, told_by_room}
+use Rattle.refusals.proofs.Accepted.{SoundMap as Sound, sound_map, GoodPair, good_pair}
+use Rattle.checks.specs.Checked.{members, size, Countable, most_steps, MapJudged, Judged}
 use Rattle.radios.specs.Links.{RowsOfLinks, Ordinary, Passing}
-use Rattle.checks.specs.declared.MapAnswer.{MapAnswer}
+use Rattle.checks.specs.declared.SoundMap.{SoundMap}
 use Rattle.checks.proofs.Scan.{sound_even}
 use Rattle.checks.proofs.Sizes.{members-are, size-degree}
 
@@ -32,85 +32,63 @@ use Rattle.checks.proofs.Sizes.{members-are, size-degree}
 all_sizes : (table : List ℕ) (n : ℕ) (rows : List ℕ) → n ≤ most_radios → RowsOfLinks table n rows → Even table n → sum (size rows) n ≡ 2 * links table n
 all_sizes table n rows most rows_are even = sum-ext (size rows) _ n (λ u l. size-degree table n rows most rows_are u) ∙ degrees_twice_links table n even
 
--- ---- 1 to 4: the map's verdict at each return
+-- ---- 1 to 4: the map's verdict
 
 -- a map that the refusals before 4 let pass, with its rows and their total
 pub record Mapped (table : List ℕ) (n : ℕ) (rows : List ℕ) (total : ℕ) : Type 0 where
   pub two : 2 ≤ n
   pub most : n ≤ most_radios
   pub long : length table ≡ n * n
-  pub sound : finding table n ≡ Sound
+  pub sound : finding table n ≡ Ok tt
   pub rows_are : RowsOfLinks table n rows
   pub added : total ≡ sum (size rows) n
 
-module _ {table : List ℕ} {n : ℕ} where
-  -- a refusal promises nothing of the rows
-  refused : {rows : List ℕ} {answer : MapAnswer} {v : Verdict} → answer ≡ no_map v → map_verdict table n ≡ v → (number v ≡ 0 → ⊥) → MapJudged table n rows answer
-  refused is told some = rw is (record { told = sym told; rows_are = λ e. absurd (some e); twice = λ e. absurd (some e); ordinary_are = λ e. absurd (some e) })
+module _ {table : List ℕ} {n : ℕ} {rows : List ℕ} where
+  pub told_radios : no_size n ≡ true → MapJudged table n rows (Err Radios)
+  unfolding map_verdict
+  told_radios h = record { told = sym (simp h); rows_are = tt; twice = tt; ordinary_are = tt }
 
-  module _ {rows : List ℕ} {answer : MapAnswer} where
-    pub told_radios : answer ≡ no_map Radios → no_size n ≡ true → MapJudged table n rows answer
-    unfolding map_verdict
-    told_radios is h = refused is (simp h) (λ e. omega arith)
+  pub told_length : 2 ≤ n → n ≤ most_radios → (length table ≡ n * n → ⊥) → MapJudged table n rows (Err TableLength)
+  unfolding map_verdict
+  told_length two most h = record { told = sym (simp (le-ltb _ _ two, le-ltb _ _ most, ne_eqb _ _ h)); rows_are = tt; twice = tt; ordinary_are = tt }
 
-    module _ (two : 2 ≤ n) (most : n ≤ most_radios) where
-      pub told_length : answer ≡ no_map TableLength → (length table ≡ n * n → ⊥) → MapJudged table n rows answer
-      unfolding map_verdict
-      told_length is h = refused is (simp (le-ltb _ _ two, le-ltb _ _ most, ne_eqb _ _ h)) (λ e. omega arith)
-
-      pub told_cell : {v : Verdict} → answer ≡ no_map v → length table ≡ n * n → v ≡ passed (finding table n) → is_bad (finding table n) ≡ true → MapJudged table n rows answer
-      unfolding map_verdict
-      told_cell is long told bad =
-          let some = bad_number (finding table n) bad in
-          refused (is ∙ ap no_map told) (simp (le-ltb _ _ two, le-ltb _ _ most, eq-eqb _ _ long, ne_eqb _ _ some)) some
-
-  module _ {rows : List ℕ} {total : ℕ} (m : Mapped table n rows total) where
+  module _ {total : ℕ} (m : Mapped table n rows total) where
     twice : total ≡ 2 * links table n
     twice = m.added ∙ all_sizes table n rows m.most m.rows_are (sound_even table n m.sound)
 
-    pub told_links : {answer : MapAnswer} → answer ≡ no_map Links → most_links < total / 2 → MapJudged table n rows answer
+    pub told_links : most_links < total / 2 → MapJudged table n rows (Err Links)
     unfolding map_verdict
-    told_links is many =
+    told_links many =
         let more : most_links < links table n = omega (arith, twice) in
-        refused is (simp (le-ltb _ _ m.two, le-ltb _ _ m.most, eq-eqb _ _ m.long, m.sound, lt-ltb _ _ more)) (λ e. omega arith)
+        record { told = sym (simp (le-ltb _ _ m.two, le-ltb _ _ m.most, eq-eqb _ _ m.long, m.sound, lt-ltb _ _ more)); rows_are = tt; twice = tt; ordinary_are = tt }
 
-    pub told_sound : {ordinary : ℕ} → Ordinary table n ordinary → total / 2 ≤ most_links → MapJudged table n rows (record { verdict = Accepted; total = total; ordinary = ordinary })
+    pub told_sound : {ordinary : ℕ} → Ordinary table n ordinary → total / 2 ≤ most_links → MapJudged table n rows (Ok (record { total = total; ordinary = ordinary }))
     unfolding map_verdict
     told_sound ordinary few =
         let least : links table n ≤ most_links = omega (arith, twice) in
-        record { told = sym (simp (le-ltb _ _ m.two, le-ltb _ _ m.most, eq-eqb _ _ m.long, m.sound, le-ltb _ _ least)); rows_are = λ e. m.rows_are; twice = λ e. twice; ordinary_are = λ e. ordinary }
+        record { told = sym (simp (le-ltb _ _ m.two, le-ltb _ _ m.most, eq-eqb _ _ m.long, m.sound, le-ltb _ _ least)); rows_are = m.rows_are; twice = twice; ordinary_are = ordinary }
 
--- ---- 5 and 6: the pair's verdict at each return
+-- ---- 5 and 6: the pair's verdict
 
-module _ (n S T k : ℕ) where
-  pub told_ends : ((n ≤ S) ⊎ (n ≤ T)) ⊎ (S ≡ T) → Ends ≡ pair_verdict n S T k
-  unfolding pair_verdict
-  told_ends h = simp ((tells_or _ _ (tells_or _ _ (tells_not_below S n) (tells_not_below T n)) (tells_equal S T)).1 h)
+pub told_ends : (n S T k : ℕ) → ((n ≤ S) ⊎ (n ≤ T)) ⊎ (S ≡ T) → Err Ends ≡ pair_verdict n S T k
+unfolding pair_verdict
+told_ends n S T k h = simp ((tells_or _ _ (tells_or _ _ (tells_not_below S n) (tells_not_below T n)) (tells_equal S T)).1 h)
 
-  module _ (source : S < n) (sink : T < n) (differ : S ≡ T → ⊥) where
-    pub told_wanted : (k ≡ 0) ⊎ (most_paths < k) → Wanted ≡ pair_verdict n S T k
-    unfolding pair_verdict
-    told_wanted h = simp (lt-ltb _ _ source, lt-ltb _ _ sink, ne_eqb _ _ differ, (tells_or _ _ (tells_equal k 0) (tells_below most_paths k)).1 h)
+pub told_wanted : (n S T k : ℕ) → S < n → T < n → (S ≡ T → ⊥) → (k ≡ 0) ⊎ (most_paths < k) → Err Wanted ≡ pair_verdict n S T k
+unfolding pair_verdict
+told_wanted n S T k source sink differ h =
+    simp (lt-ltb _ _ source, lt-ltb _ _ sink, ne_eqb _ _ differ, (tells_or _ _ (tells_equal k 0) (tells_below most_paths k)).1 h)
 
-    pub told_pair : (k ≡ 0 → ⊥) → k ≤ most_paths → Accepted ≡ pair_verdict n S T k
-    unfolding pair_verdict
-    told_pair some few = simp (lt-ltb _ _ source, lt-ltb _ _ sink, ne_eqb _ _ differ, ne_eqb _ _ some, le-ltb _ _ few)
-
--- ---- 7 and 8: the room's verdict at each return
+-- ---- 7 and 8: the room's verdict
 
 module _ (n k steps log paths cut : ℕ) where
-  pub told_log : log < message_bytes * ((2 * k + 1) * steps) → Log ≡ room_verdict n k steps log paths cut
+  pub told_log : log < message_bytes * ((2 * k + 1) * steps) → Err Log ≡ room_verdict n k steps log paths cut
   unfolding room_verdict
   told_log h = simp (lt-ltb _ _ h)
 
-  module _ (enough : message_bytes * ((2 * k + 1) * steps) ≤ log) where
-    pub told_lists : (paths < n - 2 + 3 * k) ⊎ (cut < k) → Lists ≡ room_verdict n k steps log paths cut
-    unfolding room_verdict
-    told_lists h = simp (le-ltb _ _ enough, (tells_or _ _ (tells_below paths (n - 2 + 3 * k)) (tells_below cut k)).1 h)
-
-    pub told_room : n - 2 + 3 * k ≤ paths → k ≤ cut → Accepted ≡ room_verdict n k steps log paths cut
-    unfolding room_verdict
-    told_room p q = simp (le-ltb _ _ enough, le-ltb _ _ p, le-ltb _ _ q)
+  pub told_lists : message_bytes * ((2 * k + 1) * steps) ≤ log → (paths < n - 2 + 3 * k) ⊎ (cut < k) → Err Lists ≡ room_verdict n k steps log paths cut
+  unfolding room_verdict
+  told_lists enough h = simp (le-ltb _ _ enough, (tells_or _ _ (tells_below paths (n - 2 + 3 * k)) (tells_below cut k)).1 h)
 
 -- ---- the whole call
 
@@ -122,32 +100,27 @@ pub record Unrefused (call : Call) (rows : List ℕ) (total ordinary : ℕ) : Ty
   pub twice : total ≡ 2 * links call.site.table call.site.n
   pub ordinary_are : Ordinary call.site.table call.site.n ordinary
 
--- a refusal promises nothing of the rows and of the radios that pass
-stopped : {call : Call} {rows : List ℕ} {v : Verdict} {passing : ℕ} → v ≡ verdict call → (number v ≡ 0 → ⊥) → Judged call rows (record { verdict = v; passing = passing })
-stopped told some = record { told = told; rows_are = λ e. absurd (some e); passing_are = λ e. absurd (some e) }
+-- a call that is refused: nothing is promised of the rows and of the radios that pass
+stopped : {call : Call} {rows : List ℕ} {answer : Result ℕ Refusal} (refusal : Refusal) → answer ≡ Err refusal → Err refusal ≡ verdict call → Judged call rows answer
+stopped refusal is told = rw is (record { told = told; rows_are = tt; passing_are = tt })
 
-module _ (call : Call) {rows : List ℕ} {answer : MapAnswer} (judged : MapJudged call.site.table call.site.n rows answer) where
+module _ {call : Call} {rows : List ℕ} {answer : Result ℕ Refusal} {refusal : Refusal} (is : answer ≡ Err refusal) where
   -- 1 to 4 do not let it pass
-  pub stopped_by_map : {passing : ℕ} → (number answer.verdict ≡ 0 → ⊥) → Judged call rows (record { verdict = answer.verdict; passing = passing })
-  stopped_by_map refused = stopped (judged.told ∙ sym (told_by_map call (λ e. refused (ap number judged.told ∙ e)))) refused
+  pub stopped_by_map : MapJudged call.site.table call.site.n rows (Err refusal) → Judged call rows answer
+  stopped_by_map judged = stopped refusal is (judged.told ∙ sym (told_by_map call (λ e. some_number refusal (ap number judged.told ∙ e))))
 
-  module _ (accepted : number answer.verdict ≡ 0) {v : Verdict} (told : v ≡ pair_verdict call.site.n call.site.S call.site.T call.k) where
-    on-map : number (map_verdict call.site.table call.site.n) ≡ 0
-    on-map = sym (ap number judged.told) ∙ accepted
+  -- 5 and 6 do not
+  pub stopped_by_pair : {map : SoundMap} → MapJudged call.site.table call.site.n rows (Ok map) → Err refusal ≡ pair_verdict call.site.n call.site.S call.site.T call.k → Judged call rows answer
+  stopped_by_pair judged told = stopped refusal is (told ∙ sym (told_by_pair call (sym (ap number judged.told)) (λ e. some_number refusal (ap number told ∙ e))))
 
-    -- 5 and 6 do not
-    pub stopped_by_pair : {passing : ℕ} → (number v ≡ 0 → ⊥) → Judged call rows (record { verdict = v; passing = passing })
-    stopped_by_pair refused = stopped (told ∙ sym (told_by_pair call on-map (λ e. refused (ap number told ∙ e)))) refused
-
-    pub unrefused : number v ≡ 0 → Unrefused call rows answer.total answer.ordinary
-    unrefused fine =
-        record { on-map = on-map; on-pair = sym (ap number told) ∙ fine; rows_are = judged.rows_are accepted; twice = judged.twice accepted; ordinary_are = judged.ordinary_are accepted }
+pub unrefused : (call : Call) {rows : List ℕ} {map : SoundMap} → MapJudged call.site.table call.site.n rows (Ok map) → Ok tt ≡ pair_verdict call.site.n call.site.S call.site.T call.k → Unrefused call rows map.total map.ordinary
+unrefused call judged fine = record { on-map = sym (ap number judged.told); on-pair = sym (ap number fine); rows_are = judged.rows_are; twice = judged.twice; ordinary_are = judged.ordinary_are }
 
 module _ {call : Call} {rows : List ℕ} {total ordinary : ℕ} (p : Unrefused call rows total ordinary) where
   abbrev site : Site
   site = call.site
 
-  pub the_map : SoundMap site.table site.n
+  pub the_map : Sound site.table site.n
   the_map = sound_map _ _ ((map_exact _ _).law.none.0 p.on-map)
 
   pub the_pair : GoodPair site.n site.S site.T call.k
@@ -186,5 +159,11 @@ module _ {call : Call} {rows : List ℕ} {total ordinary : ℕ} (p : Unrefused c
     steps_few = omega (arith, is_a, the_map.few_links, the_map.few_radios, few_steps site the_pair.S_below the_pair.T_below the_pair.ends_differ the_map.even)
 
     -- 7 and 8 have the last word
-    pub told_last : {v : Verdict} → v ≡ room_verdict site.n call.k a call.log_length call.paths_length call.cut_length → Judged call rows (record { verdict = v; passing = passing })
-    told_last told = record { told = (rw is_a at told) ∙ sym (told_by_room call p.on-map p.on-pair); rows_are = λ e. p.rows_are; passing_are = λ e. passing_are }
+    room_told : {v : Verdict} → v ≡ room_verdict site.n call.k a call.log_length call.paths_length call.cut_length → v ≡ verdict call
+    room_told told = (rw is_a at told) ∙ sym (told_by_room call p.on-map p.on-pair)
+
+    pub stopped_by_room : {answer : Result ℕ Refusal} {refusal : Refusal} → answer ≡ Err refusal → Err refusal ≡ room_verdict site.n call.k a call.log_length call.paths_length call.cut_length → Judged call rows answer
+    stopped_by_room {answer} {refusal} is told = stopped refusal is (room_told told)
+
+    pub unopposed : Ok tt ≡ room_verdict site.n call.k a call.log_length call.paths_length call.cut_length → Judged call rows (Ok passing)
+    unopposed told = record { told = room_told told; rows_are = p.rows_are; passing_are = passing_are }

@@ -1,16 +1,13 @@
 -- What the contracts of this crate say of the rows of links, and of what the checks leave.
-use Rattle.std.specs.Prelude.{◌≡◌, Bool, true, ◌&&◌, ◌||◌, ◌↔◌, List, ℕ, ◌+◌, ◌*◌, ◌≤◌, ◌<◌, eqb, get_or}
+use Rattle.std.specs.Prelude.{◌≡◌, Bool, true, ◌&&◌, ◌||◌, ◌↔◌, List, ℕ, ◌+◌, ◌*◌, ◌≤◌, ◌<◌, eqb, get_or, Result, Ok, Err, OnOk, IfOk}
 use Rattle.basics.specs.Counting.{count}
 use Rattle.radios.specs.Links.{RowsOfLinks, Ordinary, Passing}
 use Rattle.radios.specs.Member.{member}
 use Rattle.site.specs.Limits.{most_radios, most_links}
 use Rattle.site.specs.Map.{links}
-use Rattle.refusals.specs.Refusals.{Call, finding, map_verdict, verdict, number}
-use Rattle.refusals.specs.declared.Finding.{Finding}
-use Rattle.refusals.specs.declared.Finding.TheVariants.{Sound}
-use Rattle.refusals.specs.declared.Verdict.{Verdict}
-use Rattle.checks.specs.declared.CallAnswer.{CallAnswer}
-use Rattle.checks.specs.declared.MapAnswer.{MapAnswer}
+use Rattle.refusals.specs.Refusals.{Call, Verdict, Finding, finding, map_verdict, verdict}
+use Rattle.refusals.specs.declared.Refusal.{Refusal}
+use Rattle.checks.specs.declared.SoundMap.{SoundMap}
 
 -- two sets have the same radios up to i
 abbrev pub AgreeTo : ℕ → ℕ → ℕ → Type 0
@@ -30,13 +27,13 @@ joined i set rows u v = (eqb u i && member v set) || ((eqb v i && member u set) 
 
 -- the answer whether a table is sound, and the rows that it leaves where it is
 pub record Gathered (table : List ℕ) (n : ℕ) (rows : List ℕ) (sound : Bool) : Type 0 where
-  pub told : sound ≡ true ↔ finding table n ≡ Sound
+  pub told : sound ≡ true ↔ finding table n ≡ Ok tt
   pub rows_are : sound ≡ true → RowsOfLinks table n rows
 
 -- what the check of a table finds, and the rows that it leaves where it finds no fault
 pub record Checked (table : List ℕ) (n : ℕ) (rows : List ℕ) (found : Finding) : Type 0 where
   pub told : found ≡ finding table n
-  pub rows_are : found ≡ Sound → RowsOfLinks table n rows
+  pub rows_are : OnOk found (RowsOfLinks table n rows)
 
 -- what the count of the steps leans on: two ends, and a total that holds both their rows and fits
 pub record Countable (rows : List ℕ) (total s t : ℕ) : Type 0 where
@@ -49,19 +46,20 @@ pub record Countable (rows : List ℕ) (total s t : ℕ) : Type 0 where
 abbrev pub most_steps : ℕ
 most_steps = 2 * most_links + most_radios
 
--- what is answered of a map that is refused
-abbrev pub no_map : Verdict → MapAnswer
-no_map verdict = record { verdict = verdict; total = 0; ordinary = 0 }
+-- what a judge tells a call: it is accepted, with whatever is found, or refused
+abbrev pub verdict_of : {Found : Type 0} → Result Found Refusal → Verdict
+verdict_of (Ok found) = Ok tt
+verdict_of (Err refusal) = Err refusal
 
 -- what a map is told, and where it is accepted its rows, twice the number of its links and its radios that are no handhelds
-pub record MapJudged (table : List ℕ) (n : ℕ) (rows : List ℕ) (answer : MapAnswer) : Type 0 where
-  pub told : answer.verdict ≡ map_verdict table n
-  pub rows_are : number answer.verdict ≡ 0 → RowsOfLinks table n rows
-  pub twice : number answer.verdict ≡ 0 → answer.total ≡ 2 * links table n
-  pub ordinary_are : number answer.verdict ≡ 0 → Ordinary table n answer.ordinary
+pub record MapJudged (table : List ℕ) (n : ℕ) (rows : List ℕ) (answer : Result SoundMap Refusal) : Type 0 where
+  pub told : verdict_of answer ≡ map_verdict table n
+  pub rows_are : OnOk answer (RowsOfLinks table n rows)
+  pub twice : IfOk answer (λ map. map.total ≡ 2 * links table n)
+  pub ordinary_are : IfOk answer (λ map. Ordinary table n map.ordinary)
 
 -- what a call is told, and where it is accepted the rows that it finds and the radios that may stand inside a path
-pub record Judged (call : Call) (rows : List ℕ) (answer : CallAnswer) : Type 0 where
-  pub told : answer.verdict ≡ verdict call
-  pub rows_are : number answer.verdict ≡ 0 → RowsOfLinks call.site.table call.site.n rows
-  pub passing_are : number answer.verdict ≡ 0 → Passing call.site answer.passing
+pub record Judged (call : Call) (rows : List ℕ) (answer : Result ℕ Refusal) : Type 0 where
+  pub told : verdict_of answer ≡ verdict call
+  pub rows_are : OnOk answer (RowsOfLinks call.site.table call.site.n rows)
+  pub passing_are : IfOk answer (λ passing. Passing call.site passing)

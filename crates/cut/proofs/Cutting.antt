@@ -1,56 +1,47 @@
 -- The cut item of a path, radio by radio. Assumes nothing.
-use mathlib.Core.Path.{◌≡◌, refl, sym, ap, ◌∙◌}
+use mathlib.Core.Path.{◌≡◌, refl}
 use mathlib.Core.Bool.{true, false}
-use mathlib.Core.List.{List, [], ◌∷◌, ◌++◌, map-append}
+use mathlib.Core.List.{List, [], ◌∷◌, map-append}
 use Prim.Native.Nat.{ℕ, ◌+◌, ◌≤◌, ◌<◌}
-use native.Mathlib.Nat.{not-suc-le-zero}
 use native.Mathlib.Numerals.{add-one}
 use native.Mathlib.Omega.{arith}
 use lib.Dec.{eqb}
-use lib.ListN.{length, get_or, take, drop, set, length-take, length-map, drop_of_length-le}
-use lib.Seq.{drop-cons, take-suc}
+use lib.ListN.{length, get_or, take, drop, set, drop_of_length-le}
+use lib.Seq.{drop-cons, take-suc, take-suc-set}
 use Rattle.site.specs.Map.{Site, in_half, out_half}
 use Rattle.tokens.specs.Rules.{Entered}
 use Rattle.tokens.specs.Run.{at_link, cut_item, item_of, cut_of}
 use Rattle.cut.specs.Cut.{Ends}
-use Rattle.buffers.proofs.Stores.{store_next}
 
-pub item_starts : (site : Site) (R : Entered) (radios : List ℕ) → 0 < length radios → item_of site R radios ≡ cut_item site R (get_or radios 0 0) (drop 1 radios)
+pub item_of_none : (site : Site) (R : Entered) (radios : List ℕ) → length radios ≡ 0 → 0 ≡ item_of site R radios
 unfolding item_of
-item_starts site R [] l = absurd (not-suc-le-zero l)
-item_starts site R (u ∷ rest) l = refl
+item_of_none site R [] none = refl
+item_of_none site R (u ∷ rest) none = absurd (omega arith)
 
-pub item_of_none : (site : Site) (R : Entered) (radios : List ℕ) → length radios ≡ 0 → item_of site R radios ≡ 0
+pub item_starts : (site : Site) (R : Entered) {radios rest : List ℕ} {u : ℕ} → radios ≡ u ∷ rest → item_of site R radios ≡ cut_item site R u rest
 unfolding item_of
-item_of_none site R [] l = refl
-item_of_none site R (u ∷ rest) l = absurd (omega arith)
+item_starts site R is = rw is refl
 
--- so far all halves of the path are entered, and u is the radio before number i
-module _ (site : Site) (R : Entered) (radios : List ℕ) (u i : ℕ) (so_far : item_of site R radios ≡ cut_item site R u (drop i radios)) where
-  pub item_ends : length radios ≤ i → u ≡ item_of site R radios
+-- so far all halves of the path are entered, and u is the radio before number i of the rest
+module _ (site : Site) (R : Entered) (rest : List ℕ) (u i : ℕ) {item : ℕ} (so_far : item ≡ cut_item site R u (drop i rest)) where
+  pub item_ends : length rest ≤ i → u ≡ item
   unfolding cut_item
-  item_ends l = rw (so_far, drop_of_length-le radios l) refl
+  item_ends l = rw (so_far, drop_of_length-le rest l) refl
 
-  pub leaves_at_link : (s t item : ℕ) → Ends s t site → i < length radios → R (in_half (get_or radios i 0)) ≡ false → item ≡ at_link (eqb (get_or radios i 0) t) (eqb u s) u (get_or radios i 0) → item ≡ item_of site R radios
+  pub leaves_at_link : (s t leaving : ℕ) → Ends s t site → i < length rest → R (in_half (get_or rest i 0)) ≡ false → leaving ≡ at_link (eqb (get_or rest i 0) t) (eqb u s) u (get_or rest i 0) → leaving ≡ item
   unfolding cut_item
-  leaves_at_link s t item e l out its = rw (its, so_far, drop-cons radios i 0 l, out, e.source, e.sink) refl
+  leaves_at_link s t leaving e l out its = rw (its, so_far, drop-cons rest i 0 l, out, e.source, e.sink) refl
 
-  pub leaves_inside : i < length radios → R (in_half (get_or radios i 0)) ≡ true → R (out_half (get_or radios i 0)) ≡ false → get_or radios i 0 ≡ item_of site R radios
+  pub leaves_inside : i < length rest → R (in_half (get_or rest i 0)) ≡ true → R (out_half (get_or rest i 0)) ≡ false → get_or rest i 0 ≡ item
   unfolding cut_item
-  leaves_inside l into out = rw (so_far, drop-cons radios i 0 l, into, out) refl
+  leaves_inside l into out = rw (so_far, drop-cons rest i 0 l, into, out) refl
 
-  pub stays : i < length radios → R (in_half (get_or radios i 0)) ≡ true → R (out_half (get_or radios i 0)) ≡ true → item_of site R radios ≡ cut_item site R (get_or radios i 0) (drop (i + 1) radios)
+  pub stays : i < length rest → R (in_half (get_or rest i 0)) ≡ true → R (out_half (get_or rest i 0)) ≡ true → item ≡ cut_item site R (get_or rest i 0) (drop (i + 1) rest)
   unfolding cut_item
-  stays l into out = rw (so_far, add-one, drop-cons radios i 0 l, into, out) refl
+  stays l into out = rw (so_far, add-one, drop-cons rest i 0 l, into, out) refl
 
--- ---- the items of the paths passed, and then what stood in the cut list before
-
-abbrev pub Itemed : Site → Entered → List (List ℕ) → List ℕ → ℕ → List ℕ → Type 0
-Itemed site R paths old i cut = cut ≡ cut_of site R (take i paths) ++ drop i old
-
-module _ (site : Site) (R : Entered) (paths : List (List ℕ)) (old cut : List ℕ) where
-  pub one_more_item : (i item : ℕ) → i < length paths → i < length old → Itemed site R paths old i cut → item ≡ item_of site R (get_or paths i []) → Itemed site R paths old (i + 1) (set cut i item)
-  one_more_item i item l room e its =
-      let joined : cut_of site R (take i paths) ++ (item ∷ []) ≡ cut_of site R (take (i + 1) paths) =
-      rw (its, add-one, take-suc paths i [] l) (sym (map-append (item_of site R) (take i paths) (get_or paths i [] ∷ []))) in
-      store_next cut old (cut_of site R (take i paths)) i item e (simp (length-map, length-take) (omega arith)) room ∙ ap (λ (front : List ℕ). front ++ drop (i + 1) old) joined
+-- the items of one path more
+pub one_more_item : (site : Site) (R : Entered) (paths : List (List ℕ)) (items : List ℕ) (i item : ℕ) → i < length paths → i < length items → take i items ≡ cut_of site R (take i paths) → item ≡ item_of site R (get_or paths i [])
+    → take (i + 1) (set items i item) ≡ cut_of site R (take (i + 1) paths)
+one_more_item site R paths items i item l room so_far its =
+    rw (add-one, take-suc-set items i item room, so_far, take-suc paths i [] l, map-append (item_of site R) (take i paths) (get_or paths i [] ∷ []), its) refl

@@ -1,35 +1,64 @@
-// The halves of a map that are entered, as bytes that the caller lends: these three functions alone know how they are kept.
+// The halves of a map that are entered: these methods alone know how they are kept.
 #![tactic(auto)]
 
-ghost use Rattle.std.specs.Prelude.{◌≡◌, ◌||◌, ◌*◌, ◌<◌, eqb};
+ghost use Rattle.std.specs.Prelude.{◌≡◌, ◌||◌, ◌*◌, ◌<◌, eqb, replicate};
 ghost use Rattle.site.specs.Limits.{most_radios};
 ghost use Rattle.halves.specs.Bytes.{entered_of};
 
-// Has half h been entered?
-pub fn is_entered(entered: &[u8; 128], h: usize) -> bool
-    requires { h < 2 * most_radios }
-    ensures { result ≡ entered_of entered.now h }
-{
-    entered[h] == 1
+use std::marker::Model;
+
+// A byte for each half: 1 if it is entered.
+#[derive(Drop)]
+pub struct Entered {
+    bytes: [u8; 128],
 }
 
-// Half h is entered.
-pub fn enter(entered: &mut [u8; 128], h: usize)
-    requires { h < 2 * most_radios }
-    ensures { entered_of entered.new ≡ (λ x. eqb x h || entered_of entered.old x) }
-{
-    let s = &mut entered[..];
-    s[h] = 1;
+impl Model for Entered {
+    ghost use Rattle.std.specs.Prelude.{List, ℕ};
+
+    ghost Value = { List ℕ };
+
+    ghost view = { λ e. e.bytes };
 }
 
-// No half is entered but h.
-pub fn enter_only(entered: &mut [u8; 128], h: usize)
-    requires { h < 2 * most_radios }
-    ensures { entered_of entered.new ≡ (λ x. eqb x h) }
-{
-    let s = &mut entered[..];
-    for i in 0..site::MOST_HALVES {
-        s[i] = 0;
+// A half comes from a log as a byte and goes into rows as an index, so it is a plain number, and each clause says its bound.
+impl Entered {
+    // The halves whose byte is 1.
+    pub fn of_bytes(bytes: [u8; 128]) -> Entered
+        ensures { result ≡ bytes }
+    {
+        Entered { bytes }
     }
-    s[h] = 1;
+
+    // No half is entered.
+    pub fn none() -> Entered
+        ensures { result ≡ replicate 128 0 }
+    {
+        Entered::of_bytes([0; 128])
+    }
+
+    // Has half h been entered?
+    pub fn is_entered(&self, h: usize) -> bool
+        requires { h < 2 * most_radios }
+        ensures { result ≡ entered_of self.now h }
+    {
+        self.bytes[h] == 1
+    }
+
+    // Half h is entered.
+    pub fn enter(&mut self, h: usize)
+        requires { h < 2 * most_radios }
+        ensures { entered_of self.new ≡ (λ x. eqb x h || entered_of self.old x) }
+    {
+        self.bytes[h] = 1;
+    }
+
+    // No half is entered but h.
+    pub fn enter_only(&mut self, h: usize)
+        requires { h < 2 * most_radios }
+        ensures { entered_of self.new ≡ (λ x. eqb x h) }
+    {
+        self.bytes.fill(0);
+        self.bytes[h] = 1;
+    }
 }

@@ -2,7 +2,7 @@
 use mathlib.Core.Path.{◌≡◌, refl, sym, ap, ap₂, ◌∙◌, subst}
 use mathlib.Core.Bool.{false≢true}
 use mathlib.Core.List.{List}
-use Prim.Native.Nat.{ℕ, suc, ◌+◌, ◌*◌, ◌≤◌, ◌<◌}
+use Prim.Native.Nat.{ℕ, suc, ◌+◌, ◌*◌, ◌<◌}
 use native.Mathlib.Numerals.{add-one}
 use native.Mathlib.Omega.{arith}
 use lib.Dec.{eqb}
@@ -14,24 +14,24 @@ use Rattle.openings.proofs.Order.{untried_whole}
 use Rattle.machine.specs.declared.Task.{Task}
 use Rattle.machine.specs.declared.Stage.TheVariants.{Won}
 use Rattle.machine.specs.declared.Machine.{Machine}
+use Rattle.machine.specs.declared.Board.{Board}
 use Rattle.machine.specs.declared.Stepped.{Stepped}
 use Rattle.machine.specs.View.{beginning_at, marks_of, entered_of, notes_in, is_won, state_of}
 use Rattle.machine.specs.Sane.{Sane}
 use Rattle.machine.specs.Step.{Made, Ready, Steps, Rounds}
 use Rattle.machine.proofs.Stages.{in_stage, sane_in}
 
-module _ (task : Task) (machine : Machine) (links rows entered halves : List ℕ) where
-  -- the stage is another, or the last round is won
-  pub nothing_begins : (machine.stage ≡ Won → task.k ≤ machine.found) → Rounds task machine links rows entered halves machine entered
-  nothing_begins full = record { continues = λ plan place ready. record { from = place; ready = ready; same = refl }; full = full; still = λ e. refl }
-
+module _ (task : Task) (machine : Machine) (links : List ℕ) (board : Board) where
   abbrev Begun : Machine
-  Begun = beginning_at (out_half task.s) rows (machine.round + 1) machine.found
+  Begun = beginning_at (out_half task.s) board.rows (machine.round + 1) machine.found
 
   abbrev Noted : Site → ℕ → Entered → Notes
-  Noted site round now = record { round = round; found = machine.found; marks = marks_of site rows; entered = now }
+  Noted site round now = record { round = round; found = machine.found; marks = marks_of site board.rows; entered = now }
 
-  pub round_begins : (entered' : List ℕ) → machine.stage ≡ Won → machine.found < task.k → entered_of entered' ≡ (λ x. eqb x (out_half task.s)) → Rounds task machine links rows entered halves Begun entered'
+  abbrev BegunBoard : List ℕ → Board
+  BegunBoard entered' = record { rows = board.rows; entered = entered'; halves = board.halves }
+
+  pub round_begins : (entered' : List ℕ) → machine.stage ≡ Won → machine.found < task.k → entered_of entered' ≡ (λ x. eqb x (out_half task.s)) → Rounds task machine links board Begun (BegunBoard entered')
   unfolding inner_step go_on
   round_begins entered' is-won more e =
       record {
@@ -40,24 +40,26 @@ module _ (task : Task) (machine : Machine) (links rows entered halves : List ℕ
           ready = record {
             made = ready.made;
             walks = ready.walks;
-            untried = untried_whole plan.site (marks_of plan.site rows) (out_half task.s) rows ready.walks;
+            untried = untried_whole plan.site (marks_of plan.site board.rows) (out_half task.s) board.rows ready.walks;
             sane = subst (Sane plan) (is_begun plan ready.made) (begun_sane plan place ready);
           };
           same =
-              ap (inner_step plan) (in_stage plan.site place machine rows entered halves Won is-won)
+              ap (inner_step plan) (in_stage plan.site place machine board Won is-won)
               ∙ rw (lt-ltb machine.found plan.k (omega (arith, ready.made.wanted))) (ap (inner_step plan) (is_begun plan ready.made));
         };
         full = λ d. absurd (false≢true (ap is_won d));
         still = λ d. absurd (false≢true (sym d ∙ ap is_won is-won));
+        same_rows = refl;
+        same_halves = refl;
       }
     where
       -- the bytes are those of the definition's first state in a round
-      is_begun : (plan : Plan) → Made plan task links → searching (begun plan.site (notes_in plan.site machine rows entered)) (just_s plan.site) ≡ state_of plan.site 0 Begun rows entered' halves
+      is_begun : (plan : Plan) → Made plan task links → searching (begun plan.site (notes_in plan.site machine board)) (just_s plan.site) ≡ state_of plan.site 0 Begun (BegunBoard entered')
       is_begun plan made =
           ap (λ (x : ℕ). searching (Noted plan.site (suc machine.round) (λ y. eqb y x)) (waits x 0 nobody)) (ap out_half made.source)
           ∙ ap₂ (λ (round : ℕ) (now : Entered). searching (Noted plan.site round now) (waits (out_half task.s) 0 nobody)) (sym (add-one machine.round)) (sym e)
 
-      begun_sane : (plan : Plan) (place : ℕ) → Ready plan place task machine links rows entered halves → Sane plan (searching (begun plan.site (notes_in plan.site machine rows entered)) (just_s plan.site))
+      begun_sane : (plan : Plan) (place : ℕ) → Ready plan place task machine links board → Sane plan (searching (begun plan.site (notes_in plan.site machine board)) (just_s plan.site))
       begun_sane plan place ready =
           let site = plan.site in
           let sane = sane_in ready Won is-won in
@@ -77,9 +79,9 @@ module _ (task : Task) (machine : Machine) (links rows entered halves : List ℕ
           }
 
 -- what follows once the round has begun follows from here on
-pub follows_on : (task : Task) (machine : Machine) (links rows entered halves : List ℕ) (next : Machine) (entered' : List ℕ) → Rounds task machine links rows entered halves next entered'
-    → (stepped : Stepped) (rows'' entered'' halves'' : List ℕ) → Steps task next links rows entered' halves stepped rows'' entered'' halves'' → Steps task machine links rows entered halves stepped rows'' entered'' halves''
-follows_on task machine links rows entered halves next entered' rounds stepped rows'' entered'' halves'' steps plan place ready =
+pub follows_on : {task : Task} {machine : Machine} {links : List ℕ} {board : Board} {next : Machine} {board' : Board} → Rounds task machine links board next board'
+    → (stepped : Stepped) (board'' : Board) → Steps task next links board' stepped board'' → Steps task machine links board stepped board''
+follows_on rounds stepped board'' steps plan place ready =
     let on = rounds.continues plan place ready in
     let after = steps plan on.from on.ready in
     record { walks = after.walks; gives = record { place = after.gives.place; untried = after.gives.untried; answers = on.same ∙ after.gives.answers } }

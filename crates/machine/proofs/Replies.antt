@@ -1,9 +1,8 @@
 -- What each stage of the step leaves, by what its parts left. Assumes nothing.
-use mathlib.Core.Path.{◌≡◌, refl, sym, ap, ap₂, ◌∙◌, subst}
+use mathlib.Core.Path.{◌≡◌, refl, sym, ap, ap₂, ◌∙◌, subst, subst⁻¹}
 use mathlib.Core.Bool.{true, false, not, ◌&&◌, ◌||◌}
 use mathlib.Core.List.{List}
 use Prim.Native.Nat.{ℕ, suc, ◌+◌, ◌*◌, ◌%◌, ◌≤◌, ◌<◌}
-use native.Mathlib.Decide.{dec_lt}
 use native.Mathlib.Numerals.{add-one}
 use native.Mathlib.Omega.{arith}
 use lib.Dec.{eqb}
@@ -16,7 +15,7 @@ use Rattle.tokens.specs.Rules.{Plan, Marks, Entered, Notes, Waiting, waits, Stat
 use Rattle.tokens.specs.declared.Kind.TheVariants.{Pdt, PdtB, Pmt, Done}
 use Rattle.tokens.specs.declared.Message.{Message}
 use Rattle.tokens.specs.declared.Answer.TheVariants.{Sent, End}
-use Rattle.openings.specs.Rows.{across, Open, Joined, Untried, NextRadio, or_none}
+use Rattle.openings.specs.Rows.{across, Open, Joined, Untried, NextRadio}
 use Rattle.openings.proofs.Walks.{pair}
 use Rattle.openings.proofs.Turns.{on_turned, on_told, marks_told}
 use Rattle.openings.proofs.Order.{untried_whole, untried_less, none_left}
@@ -24,6 +23,7 @@ use Rattle.machine.specs.declared.Task.{Task}
 use Rattle.machine.specs.declared.Stage.{Stage}
 use Rattle.machine.specs.declared.Stage.TheVariants.{Searching, Declining, Granting, Won, Carrying}
 use Rattle.machine.specs.declared.Machine.{Machine}
+use Rattle.machine.specs.declared.Board.{Board}
 use Rattle.machine.specs.declared.Stepped.{Stepped}
 use Rattle.machine.specs.View.{moved_to, with_left, marks_of, entered_of, tried, waiting_of, notes_in, state_in, stack_of, state_of}
 use Rattle.machine.specs.Step.{Fits, TopUntried, Ready, Agrees, Follows, Received}
@@ -35,38 +35,39 @@ sent_by message machine = record { answer = Sent message; machine = machine }
 
 -- ---- a PDT is received in one of three ways
 
-module _ (site : Site) (machine next : Machine) (y : ℕ) (rows entered entered' halves : List ℕ) where
+module _ (site : Site) (machine : Machine) (y : ℕ) (board : Board) where
   abbrev Above : Waiting
-  Above = waits machine.half (tried site machine.half y) (waiting_of site halves machine.depth machine.half)
+  Above = waits machine.half (tried site machine.half y) (waiting_of site board.halves machine.depth machine.half)
 
   abbrev Noted : Entered → Notes
-  Noted now = record { round = machine.round; found = machine.found; marks = marks_of site rows; entered = now }
+  Noted now = record { round = machine.round; found = machine.found; marks = marks_of site board.rows; entered = now }
 
-  pub T_receives : y ≡ in_half site.T → entered_of entered' ≡ (λ x. eqb x y || entered_of entered x) → next ≡ moved_to machine Granting machine.half y machine.left machine.depth
-      → Received site machine y rows entered halves next entered' halves
+  pub T_receives : (entered' : List ℕ) → y ≡ in_half site.T → entered_of entered' ≡ (λ x. eqb x y || entered_of board.entered x)
+      → Received site machine y board (moved_to machine Granting machine.half y machine.left machine.depth) (record { rows = board.rows; entered = entered'; halves = board.halves })
   unfolding gets
-  T_receives t e m =
-      rw m
-      (record {
+  T_receives entered' t e =
+      record {
         place = tried site machine.half y;
+        same_rows = refl;
         untried = tt;
         state = rw (eq-eqb y (in_half site.T) t) (ap (λ (now : Entered). granting y (Noted now) Above) (sym e));
-      })
+      }
 
-  pub entered_receives : (y ≡ in_half site.T → ⊥) → entered_of entered y ≡ true → Untried site (marks_of site rows) machine.half (tried site machine.half y) machine.left
-      → next ≡ moved_to machine Declining machine.half y machine.left machine.depth → Received site machine y rows entered halves next entered halves
+  pub entered_receives : (y ≡ in_half site.T → ⊥) → entered_of board.entered y ≡ true → Untried site (marks_of site board.rows) machine.half (tried site machine.half y) machine.left
+      → Received site machine y board (moved_to machine Declining machine.half y machine.left machine.depth) board
   unfolding gets
-  entered_receives t e rest m = rw m (record { place = tried site machine.half y; untried = rest; state = rw (ne_eqb y (in_half site.T) t, e) refl })
+  entered_receives t e rest = record { place = tried site machine.half y; same_rows = refl; untried = rest; state = rw (ne_eqb y (in_half site.T) t, e) refl }
 
-  pub new_receives : (halves' : List ℕ) (other : ℕ) → (y ≡ in_half site.T → ⊥) → entered_of entered y ≡ false → entered_of entered' ≡ (λ x. eqb x y || entered_of entered x)
-      → waiting_of site halves' (machine.depth + 1) y ≡ Above → Open site (marks_of site rows) rows
-      → next ≡ moved_to machine Searching y other (get_or rows y 0) (machine.depth + 1) → Received site machine y rows entered halves next entered' halves'
+  pub new_receives : (next : Machine) (entered' halves' : List ℕ) (other : ℕ) → (y ≡ in_half site.T → ⊥) → entered_of board.entered y ≡ false → entered_of entered' ≡ (λ x. eqb x y || entered_of board.entered x)
+      → waiting_of site halves' (machine.depth + 1) y ≡ Above → Open site (marks_of site board.rows) board.rows
+      → next ≡ moved_to machine Searching y other (get_or board.rows y 0) (machine.depth + 1) → Received site machine y board next (record { rows = board.rows; entered = entered'; halves = halves' })
   unfolding gets
-  new_receives halves' other t e f w walks m =
+  new_receives next entered' halves' other t e f w walks m =
       rw m
       (record {
         place = 0;
-        untried = untried_whole site (marks_of site rows) y rows walks;
+        same_rows = refl;
+        untried = untried_whole site (marks_of site board.rows) y board.rows walks;
         state =
             rw (ne_eqb y (in_half site.T) t, e)
             (ap₂ (λ (now : Entered) (w : Waiting). searching (Noted now) (waits y 0 w)) (sym f) (sym w));
@@ -74,71 +75,58 @@ module _ (site : Site) (machine next : Machine) (y : ℕ) (rows entered entered'
 
 -- ---- DONE
 
-module _ (site : Site) (machine : Machine) (stepped : Stepped) (rows entered halves : List ℕ) (h v w : ℕ) where
-  pub passed : (next : Machine) (left : ℕ) → w < site.n → next ≡ moved_to machine Carrying (2 * w) v left 0 → stepped ≡ sent_by (message Done h (2 * w)) next
-      → Agrees site (pass_on site h v w (notes_in site machine rows entered)) stepped rows entered halves
+module _ (site : Site) (machine : Machine) (stepped : Stepped) (board : Board) (h v : ℕ) where
+  pub passed : (w left : ℕ) → w < site.n → stepped ≡ sent_by (message Done h (2 * w)) (moved_to machine Carrying (2 * w) v left 0)
+      → Agrees site (pass_on site h v w (notes_in site machine board)) stepped board
   unfolding pass_on
-  passed next left l m e = rw (e, m) (record { place = 0; untried = tt; answers = rw (lt-ltb w site.n l) refl })
+  passed w left l e = rw e (record { place = 0; untried = tt; answers = rw (lt-ltb w site.n l) refl })
 
-  pub not_passed : (place : ℕ) → site.n ≤ w → TopUntried site place machine rows → Agrees site (pass_on site h v w (notes_in site machine rows entered)) (record { answer = End; machine = machine }) rows entered halves
+  -- n stands for no radio
+  pub not_passed : (place : ℕ) → stepped ≡ record { answer = End; machine = machine } → TopUntried site place machine board.rows → Agrees site (pass_on site h v site.n (notes_in site machine board)) stepped board
   unfolding pass_on
-  not_passed place l untried = record { place = place; untried = untried; answers = rw (le-ltb w site.n l) refl }
+  not_passed place e untried = rw e (record { place = place; untried = untried; answers = rw (le-ltb site.n site.n (omega arith)) refl })
 
--- DONE is passed on alike, whichever number stands for no radio
-passes-alike : (site : Site) (h v v' w : ℕ) (notes : Notes) → (w < site.n → v ≡ v') → pass_on site h v (or_none site w) notes ≡ pass_on site h v' w notes
-unfolding pass_on
-passes-alike site h v v' w notes same = go (dec_lt w site.n)
-  where
-    go : Dec (w < site.n) → pass_on site h v (or_none site w) notes ≡ pass_on site h v' w notes
-    go (yes l) = rw (lt-ltb w site.n l, lt-ltb w site.n l, same l) refl
-    go (no l) = rw (le-ltb w site.n (omega arith), le-ltb site.n site.n (omega arith)) refl
-
-module _ (site : Site) (machine : Machine) (stepped : Stepped) (rows entered halves : List ℕ) (v w : ℕ) where
+module _ (site : Site) (machine : Machine) (stepped : Stepped) (board : Board) (v w : ℕ) where
   abbrev Sends : ℕ → Type 0
-  Sends s = next_marked site (marks_of site rows) (out_half s) v ≡ or_none site w → Agrees site (pass_on site (out_half s) w w (notes_in site machine rows entered)) stepped rows entered halves
-      → Agrees site (release site v (notes_in site machine rows entered)) stepped rows entered halves
+  Sends s = next_marked site (marks_of site board.rows) (out_half s) v ≡ w → Agrees site (pass_on site (out_half s) w w (notes_in site machine board)) stepped board
+      → Agrees site (release site v (notes_in site machine board)) stepped board
 
   S_sends : Sends site.S
   unfolding release
-  S_sends is gives =
-      record {
-        place = gives.place;
-        untried = gives.untried;
-        answers = rw is (passes-alike site (out_half site.S) (or_none site w) w w (notes_in site machine rows entered) (λ l. rw (lt-ltb w site.n l) refl) ∙ gives.answers);
-      }
+  S_sends is gives = record { place = gives.place; untried = gives.untried; answers = rw is gives.answers }
 
   pub released : (s : ℕ) → site.S ≡ s → Sends s
   released s e = subst Sends e S_sends
 
 -- ---- a stage
 
-module _ {plan : Plan} {place : ℕ} {task : Task} {machine : Machine} {links rows entered halves : List ℕ} (ready : Ready plan place task machine links rows entered halves) where
+module _ {plan : Plan} {place : ℕ} {task : Task} {machine : Machine} {links : List ℕ} {board : Board} (ready : Ready plan place task machine links board) where
   abbrev Now : Notes
-  Now = notes_in plan.site machine rows entered
+  Now = notes_in plan.site machine board
 
   abbrev Rest : Waiting
-  Rest = waiting_of plan.site halves machine.depth machine.half
+  Rest = waiting_of plan.site board.halves machine.depth machine.half
 
   abbrev From : Stage → State
-  From stage = state_in stage machine.half machine.other Now (stack_of plan.site place machine halves)
+  From stage = state_in stage machine.half machine.other Now (stack_of plan.site place machine board.halves)
 
-  abbrev pub LeavesNext : Stepped → List ℕ → List ℕ → List ℕ → Type 0
-  LeavesNext stepped rows' entered' halves' = Follows plan (state_of plan.site place machine rows entered halves) stepped rows' entered' halves'
+  abbrev pub LeavesNext : Stepped → Board → Type 0
+  LeavesNext stepped board' = Follows plan (state_of plan.site place machine board) stepped board'
 
   -- what is given from the state at its stage follows
-  follows_at : (stage : Stage) → machine.stage ≡ stage → (stepped : Stepped) (rows' entered' halves' : List ℕ) → Open plan.site (marks_of plan.site rows') rows'
-      → Agrees plan.site (inner_step plan (From stage)) stepped rows' entered' halves' → LeavesNext stepped rows' entered' halves'
-  follows_at stage e stepped rows' entered' halves' walks gives =
+  follows_at : (stage : Stage) → machine.stage ≡ stage → (stepped : Stepped) (board' : Board) → Open plan.site (marks_of plan.site board'.rows) board'.rows
+      → Agrees plan.site (inner_step plan (From stage)) stepped board' → LeavesNext stepped board'
+  follows_at stage e stepped board' walks gives =
       record {
         walks = walks;
-        gives = record { place = gives.place; untried = gives.untried; answers = ap (inner_step plan) (in_stage plan.site place machine rows entered halves stage e) ∙ gives.answers };
+        gives = record { place = gives.place; untried = gives.untried; answers = ap (inner_step plan) (in_stage plan.site place machine board stage e) ∙ gives.answers };
       }
 
   pub carrying_releases : machine.stage ≡ Carrying → machine.half ≡ 2 * task.t → (stepped : Stepped)
-      → Agrees plan.site (release plan.site (machine.other + 1) Now) stepped rows entered halves → LeavesNext stepped rows entered halves
+      → Agrees plan.site (release plan.site (machine.other + 1) Now) stepped board → LeavesNext stepped board
   unfolding inner_step carry
   carrying_releases e t stepped gives =
-      follows_at Carrying e stepped rows entered halves ready.walks
+      follows_at Carrying e stepped board ready.walks
       (record {
         place = gives.place;
         untried = gives.untried;
@@ -148,49 +136,45 @@ module _ {plan : Plan} {place : ℕ} {task : Task} {machine : Machine} {links ro
   not_T : (machine.half ≡ 2 * task.t → ⊥) → eqb machine.half (in_half plan.site.T) ≡ false
   not_T t = ne_eqb machine.half (in_half plan.site.T) (λ e. t (e ∙ ap in_half ready.made.sink))
 
-  pub carrying_passes : machine.stage ≡ Carrying → (machine.half ≡ 2 * task.t → ⊥) → machine.half % 2 ≡ 1 → (w : ℕ) → next_marked plan.site (marks_of plan.site rows) machine.half 0 ≡ or_none plan.site w → (stepped : Stepped)
-      → Agrees plan.site (pass_on plan.site machine.half machine.other w Now) stepped rows entered halves → LeavesNext stepped rows entered halves
+  pub carrying_passes : machine.stage ≡ Carrying → (machine.half ≡ 2 * task.t → ⊥) → machine.half % 2 ≡ 1 → (w : ℕ) → next_marked plan.site (marks_of plan.site board.rows) machine.half 0 ≡ w → (stepped : Stepped)
+      → Agrees plan.site (pass_on plan.site machine.half machine.other w Now) stepped board → LeavesNext stepped board
   unfolding inner_step carry
   carrying_passes e t out w is stepped gives =
-      follows_at Carrying e stepped rows entered halves ready.walks
-      (record {
-        place = gives.place;
-        untried = gives.untried;
-        answers = rw (not_T t, eq-eqb (machine.half % 2) 1 out, is) (passes-alike plan.site machine.half machine.other machine.other w Now (λ l. refl) ∙ gives.answers);
-      })
+      follows_at Carrying e stepped board ready.walks
+      (record { place = gives.place; untried = gives.untried; answers = rw (not_T t, eq-eqb (machine.half % 2) 1 out, is) gives.answers })
 
   pub carrying_inside : machine.stage ≡ Carrying → (machine.half ≡ 2 * task.t → ⊥) → (machine.half % 2 ≡ 1 → ⊥) → (stepped : Stepped) (next : Machine) (left : ℕ)
-      → next ≡ moved_to machine Carrying (machine.half + 1) machine.other left machine.depth → stepped ≡ sent_by (message Done machine.half (machine.half + 1)) next → LeavesNext stepped rows entered halves
+      → next ≡ moved_to machine Carrying (machine.half + 1) machine.other left machine.depth → stepped ≡ sent_by (message Done machine.half (machine.half + 1)) next → LeavesNext stepped board
   unfolding inner_step carry
   carrying_inside e t low stepped next left m s =
-      follows_at Carrying e stepped rows entered halves ready.walks
+      follows_at Carrying e stepped board ready.walks
       (rw (s, m) (record { place = 0; untried = tt; answers = rw (not_T t, ne_eqb (machine.half % 2) 1 low) refl }))
 
   pub declining_replies : machine.stage ≡ Declining → (stepped : Stepped) (next : Machine) (other : ℕ) → next ≡ moved_to machine Searching machine.half other machine.left machine.depth
-      → stepped ≡ sent_by (message PdtB machine.other machine.half) next → LeavesNext stepped rows entered halves
+      → stepped ≡ sent_by (message PdtB machine.other machine.half) next → LeavesNext stepped board
   unfolding inner_step decline
   declining_replies e stepped next other m s =
-      follows_at Declining e stepped rows entered halves ready.walks (rw (s, m) (record { place = place; untried = untried_in ready Declining e; answers = refl }))
+      follows_at Declining e stepped board ready.walks (rw (s, m) (record { place = place; untried = untried_in ready Declining e; answers = refl }))
 
-  pub last_releases : machine.stage ≡ Won → task.k ≤ machine.found → (stepped : Stepped) → Agrees plan.site (release plan.site 0 Now) stepped rows entered halves → LeavesNext stepped rows entered halves
+  pub last_releases : machine.stage ≡ Won → task.k ≤ machine.found → (stepped : Stepped) → Agrees plan.site (release plan.site 0 Now) stepped board → LeavesNext stepped board
   unfolding inner_step go_on
   last_releases e full stepped gives =
-      follows_at Won e stepped rows entered halves ready.walks
+      follows_at Won e stepped board ready.walks
       (record { place = gives.place; untried = gives.untried; answers = rw (le-ltb machine.found plan.k (omega (arith, ready.made.wanted))) gives.answers })
 
   -- ---- a search
 
   module _ (e : machine.stage ≡ Searching) where
-    pub search_top : Top plan.site machine halves
-    search_top = on-top plan task machine links rows entered halves ready.made (sane_in ready Searching e).under
+    pub search_top : Top plan.site machine board.halves
+    search_top = on-top plan task machine links board ready.made (sane_in ready Searching e).under
 
-    pub search_untried : Untried plan.site (marks_of plan.site rows) machine.half place machine.left
+    pub search_untried : Untried plan.site (marks_of plan.site board.rows) machine.half place machine.left
     search_untried = untried_in ready Searching e
 
-    pub searching_asks : (v : ℕ) → NextRadio plan (marks_of plan.site rows) machine.half place v → (stepped : Stepped) (y left : ℕ) (there : Machine) (entered' halves' : List ℕ) → y ≡ across machine.half v
-        → Received plan.site (with_left machine left) y rows entered halves there entered' halves' → stepped ≡ sent_by (message Pdt machine.half y) there → LeavesNext stepped rows entered' halves'
-    searching_asks v next stepped y left there entered' halves' is received s =
-        follows_at Searching e stepped rows entered' halves' ready.walks
+    pub searching_asks : (v : ℕ) → NextRadio plan (marks_of plan.site board.rows) machine.half place v → (stepped : Stepped) (y left : ℕ) (there : Machine) (board' : Board) → y ≡ across machine.half v
+        → Received plan.site (with_left machine left) y board there board' → stepped ≡ sent_by (message Pdt machine.half y) there → LeavesNext stepped board'
+    searching_asks v next stepped y left there board' is received s =
+        follows_at Searching e stepped board' (subst⁻¹ (λ (rows : List ℕ). Open plan.site (marks_of plan.site rows) rows) received.same_rows ready.walks)
         (rw s
         (record {
           place = received.place;
@@ -201,50 +185,54 @@ module _ {plan : Plan} {place : ℕ} {task : Task} {machine : Machine} {links ro
         }))
 
     -- nothing is left to try
-    no_more : machine.left ≡ 0 → inner_step plan (From Searching) ≡ tries false plan machine.half (next_place plan (marks_of plan.site rows) machine.half place) Now Rest
+    no_more : machine.left ≡ 0 → inner_step plan (From Searching) ≡ tries false plan machine.half (next_place plan (marks_of plan.site board.rows) machine.half place) Now Rest
     no_more none =
         asks_no_more plan Now machine.half place Rest search_top.half
-        (none_left plan (marks_of plan.site rows) machine.half place ready.made.order search_top.half (subst (Untried plan.site (marks_of plan.site rows) machine.half place) none search_untried))
+        (none_left plan (marks_of plan.site board.rows) machine.half place ready.made.order search_top.half (subst (Untried plan.site (marks_of plan.site board.rows) machine.half place) none search_untried))
 
-    pub searching_fails : machine.left ≡ 0 → (stepped : Stepped) → machine.depth ≡ 0 → Agrees plan.site (release plan.site 0 Now) stepped rows entered halves → LeavesNext stepped rows entered halves
+    pub searching_fails : machine.left ≡ 0 → (stepped : Stepped) → machine.depth ≡ 0 → Agrees plan.site (release plan.site 0 Now) stepped board → LeavesNext stepped board
     unfolding tries
     searching_fails none stepped bottom gives =
-        follows_at Searching e stepped rows entered halves ready.walks (record { place = gives.place; untried = gives.untried; answers = no_more none ∙ rw bottom gives.answers })
+        follows_at Searching e stepped board ready.walks (record { place = gives.place; untried = gives.untried; answers = no_more none ∙ rw bottom gives.answers })
 
-    pub searching_replies : machine.left ≡ 0 → (stepped : Stepped) (below asker left other : ℕ) (there : Machine) → machine.depth ≡ suc below → asker ≡ get_or halves below 0
-        → Untried plan.site (marks_of plan.site rows) asker (tried plan.site asker machine.half) left → there ≡ moved_to machine Searching asker other left below
-        → stepped ≡ sent_by (message PdtB machine.half asker) there → LeavesNext stepped rows entered halves
+    pub searching_replies : machine.left ≡ 0 → (stepped : Stepped) (below asker left other : ℕ) (there : Machine) → machine.depth ≡ suc below → asker ≡ get_or board.halves below 0
+        → Untried plan.site (marks_of plan.site board.rows) asker (tried plan.site asker machine.half) left → there ≡ moved_to machine Searching asker other left below
+        → stepped ≡ sent_by (message PdtB machine.half asker) there → LeavesNext stepped board
     unfolding tries
     searching_replies none stepped below asker left other there deep is rest m s =
-        follows_at Searching e stepped rows entered halves ready.walks
+        follows_at Searching e stepped board ready.walks
         (rw (s, m) (record { place = tried plan.site asker machine.half; untried = rest; answers = no_more none ∙ rw (deep, is) refl }))
 
   -- ---- a PMT
 
   module _ (e : machine.stage ≡ Granting) where
-    pub grant_top : Top plan.site machine halves
-    grant_top = on-top plan task machine links rows entered halves ready.made (sane_in ready Granting e).0
+    pub grant_top : Top plan.site machine board.halves
+    grant_top = on-top plan task machine links board ready.made (sane_in ready Granting e).0
 
     pub grant_joined : Joined plan.site machine.half machine.other
     grant_joined = (sane_in ready Granting e).1
 
-    module _ (rows' : List ℕ) (turned : Open plan.site (reversed plan.site machine.half machine.other (marks_of plan.site rows)) rows') (stepped : Stepped) where
-      marks_are : reversed plan.site machine.half machine.other (marks_of plan.site rows) ≡ marks_of plan.site rows'
-      marks_are = marks_told plan.site _ rows' (on_turned plan.site machine.half machine.other (marks_of plan.site rows) (on_told plan.site rows)) turned
+    module _ (rows' : List ℕ) (turned : Open plan.site (reversed plan.site machine.half machine.other (marks_of plan.site board.rows)) rows') (stepped : Stepped) where
+      marks_are : reversed plan.site machine.half machine.other (marks_of plan.site board.rows) ≡ marks_of plan.site rows'
+      marks_are = marks_told plan.site _ rows' (on_turned plan.site machine.half machine.other (marks_of plan.site board.rows) (on_told plan.site board.rows)) turned
 
       walks' : Open plan.site (marks_of plan.site rows') rows'
       walks' = subst (λ (marks : Marks). Open plan.site marks rows') marks_are turned
 
-      abbrev Turned : Marks → ℕ → Notes
-      Turned marks found = record { round = machine.round; found = found; marks = marks; entered = entered_of entered }
+      abbrev pub TurnedBoard : Board
+      TurnedBoard = record { rows = rows'; entered = board.entered; halves = board.halves }
 
-      pub granting_wins : (there : Machine) → machine.depth ≡ 0
-          → there ≡ record { stage = Won; half = machine.half; other = machine.other; left = machine.left; depth = machine.depth; round = machine.round; found = machine.found + 1 }
-          → stepped ≡ sent_by (message Pmt machine.other machine.half) there → LeavesNext stepped rows' entered halves
+      abbrev Turned : Marks → ℕ → Notes
+      Turned marks found = record { round = machine.round; found = found; marks = marks; entered = entered_of board.entered }
+
+      abbrev OneMore : Machine
+      OneMore = record { stage = Won; half = machine.half; other = machine.other; left = machine.left; depth = machine.depth; round = machine.round; found = machine.found + 1 }
+
+      pub granting_wins : machine.depth ≡ 0 → stepped ≡ sent_by (message Pmt machine.other machine.half) OneMore → LeavesNext stepped TurnedBoard
       unfolding inner_step grant
-      granting_wins there none m s =
-          follows_at Granting e stepped rows' entered halves walks'
-          (rw (s, m)
+      granting_wins none s =
+          follows_at Granting e stepped TurnedBoard walks'
+          (rw s
           (record {
             place = 0;
             untried = tt;
@@ -253,11 +241,11 @@ module _ {plan : Plan} {place : ℕ} {task : Task} {machine : Machine} {links ro
                 (ap₂ (λ (marks : Marks) (found : ℕ). sends (message Pmt machine.other machine.half) (won (Turned marks found))) marks_are (sym (add-one machine.found)));
           }))
 
-      pub granting_goes_on : (below asker : ℕ) (there : Machine) → machine.depth ≡ suc below → asker ≡ get_or halves below 0
-          → there ≡ moved_to machine Granting asker machine.half machine.left below → stepped ≡ sent_by (message Pmt machine.other machine.half) there → LeavesNext stepped rows' entered halves
+      pub granting_goes_on : (below asker : ℕ) (there : Machine) → machine.depth ≡ suc below → asker ≡ get_or board.halves below 0
+          → there ≡ moved_to machine Granting asker machine.half machine.left below → stepped ≡ sent_by (message Pmt machine.other machine.half) there → LeavesNext stepped TurnedBoard
       unfolding inner_step grant
       granting_goes_on below asker there deep is m s =
-          follows_at Granting e stepped rows' entered halves walks'
+          follows_at Granting e stepped TurnedBoard walks'
           (rw (s, m)
           (record {
             place = tried plan.site asker machine.half;
@@ -265,7 +253,7 @@ module _ {plan : Plan} {place : ℕ} {task : Task} {machine : Machine} {links ro
             answers =
                 rw (deep, is)
                 (ap
-                (λ (marks : Marks). sends (message Pmt machine.other machine.half) (granting machine.half (Turned marks machine.found) (waits (get_or halves below 0) (tried plan.site (get_or halves below 0) machine.half) (waiting_of plan.site halves below (get_or halves below 0)))))
+                (λ (marks : Marks). sends (message Pmt machine.other machine.half) (granting machine.half (Turned marks machine.found) (waits (get_or board.halves below 0) (tried plan.site (get_or board.halves below 0) machine.half) (waiting_of plan.site board.halves below (get_or board.halves below 0)))))
                 marks_are);
           }))
 
@@ -291,7 +279,7 @@ pub record Searches (task : Task) (machine : Machine) (halves : List ℕ) : Type
   pub deep : machine.depth < 2 * most_radios
   pub asker : (below : ℕ) → machine.depth ≡ suc below → get_or halves below 0 < 2 * most_radios
 
-module _ {plan : Plan} {place : ℕ} {task : Task} {machine : Machine} {links rows entered halves : List ℕ} (ready : Ready plan place task machine links rows entered halves) where
+module _ {plan : Plan} {place : ℕ} {task : Task} {machine : Machine} {links : List ℕ} {board : Board} (ready : Ready plan place task machine links board) where
   pub carries : machine.stage ≡ Carrying → Carries task machine
   carries e =
       let sane = sane_in ready Carrying e in
@@ -299,10 +287,10 @@ module _ {plan : Plan} {place : ℕ} {task : Task} {machine : Machine} {links ro
       record { fits = ready.made.fits; radio = omega (arith, sane.1); half = omega (arith, sane.2) }
 
   -- who asked the half on top is a half
-  asker_half : Top plan.site machine halves → (below : ℕ) → machine.depth ≡ suc below → get_or halves below 0 < 2 * most_radios
-  asker_half top below d = omega (arith, top.few, (pair plan.site (get_or halves below 0) machine.half (top.asker below d)).first)
+  asker_half : Top plan.site machine board.halves → (below : ℕ) → machine.depth ≡ suc below → get_or board.halves below 0 < 2 * most_radios
+  asker_half top below d = omega (arith, top.few, (pair plan.site (get_or board.halves below 0) machine.half (top.asker below d)).first)
 
-  pub grants : machine.stage ≡ Granting → Grants machine halves
+  pub grants : machine.stage ≡ Granting → Grants machine board.halves
   grants e =
       let top = grant_top ready e in
       let two = pair plan.site machine.half machine.other (grant_joined ready e) in
@@ -311,7 +299,7 @@ module _ {plan : Plan} {place : ℕ} {task : Task} {machine : Machine} {links ro
   pub few_found : machine.stage ≡ Granting → machine.found < task.k
   few_found e = let k = ready.made.wanted in omega (arith, (sane_in ready Granting e).0.fewer)
 
-  pub searches : machine.stage ≡ Searching → Searches task machine halves
+  pub searches : machine.stage ≡ Searching → Searches task machine board.halves
   searches e =
       let top = search_top ready e in
       let n = ready.made.radios in

@@ -20,6 +20,7 @@ use Rattle.openings.proofs.Order.{placed, candidate-at}
 use Rattle.machine.specs.declared.Task.{Task}
 use Rattle.machine.specs.declared.Stage.{Stage}
 use Rattle.machine.specs.declared.Machine.{Machine}
+use Rattle.machine.specs.declared.Board.{Board}
 use Rattle.machine.specs.View.{marks_of, entered_of, place_in_order, tried, waiting_of, notes_in, state_in, stack_of, state_of}
 use Rattle.machine.specs.Sane.{Joined, DownToS, depth, Under, Sane}
 use Rattle.machine.specs.Step.{Made, WhileSeeking, Ready}
@@ -52,9 +53,9 @@ pub record Top (site : Site) (machine : Machine) (halves : List ℕ) : Type 0 wh
   pub deep : machine.depth < 2 * most_radios
   pub asker : (below : ℕ) → machine.depth ≡ suc below → Joined site (get_or halves below 0) machine.half
 
-pub on-top : (plan : Plan) (task : Task) (machine : Machine) (links rows entered halves : List ℕ) → Made plan task links
-    → Under plan (notes_in plan.site machine rows entered) machine.half (waiting_of plan.site halves machine.depth machine.half) → Top plan.site machine halves
-on-top plan task machine links rows entered halves made under =
+pub on-top : (plan : Plan) (task : Task) (machine : Machine) (links : List ℕ) (board : Board) → Made plan task links
+    → Under plan (notes_in plan.site machine board) machine.half (waiting_of plan.site board.halves machine.depth machine.half) → Top plan.site machine board.halves
+on-top plan task machine links board made under =
     let site = plan.site in
     let n = made.radios in
     let s = made.source in
@@ -63,26 +64,26 @@ on-top plan task machine links rows entered halves made under =
     record {
       few = few;
       source = source;
-      half = asked_below site machine.half (waiting_of site halves machine.depth machine.half) source under.asked;
-      deep = omega (arith, under.room, depth-of site halves machine.depth machine.half, count_most (entered_of entered) (2 * site.n));
+      half = asked_below site machine.half (waiting_of site board.halves machine.depth machine.half) source under.asked;
+      deep = omega (arith, under.room, depth-of site board.halves machine.depth machine.half, count_most (entered_of board.entered) (2 * site.n));
       asker = λ below e. (rw e at under.asked).0;
     }
 
 -- ---- a stage
 
-module _ (site : Site) (place : ℕ) (machine : Machine) (rows entered halves : List ℕ) where
+module _ (site : Site) (place : ℕ) (machine : Machine) (board : Board) where
   -- the state by its stage
   pub in_stage : (stage : Stage) → machine.stage ≡ stage
-      → state_of site place machine rows entered halves ≡ state_in stage machine.half machine.other (notes_in site machine rows entered) (stack_of site place machine halves)
-  in_stage stage e = ap (λ (s : Stage). state_in s machine.half machine.other (notes_in site machine rows entered) (stack_of site place machine halves)) e
+      → state_of site place machine board ≡ state_in stage machine.half machine.other (notes_in site machine board) (stack_of site place machine board.halves)
+  in_stage stage e = ap (λ (s : Stage). state_in s machine.half machine.other (notes_in site machine board) (stack_of site place machine board.halves)) e
 
-module _ {plan : Plan} {place : ℕ} {task : Task} {machine : Machine} {links rows entered halves : List ℕ} (ready : Ready plan place task machine links rows entered halves) where
+module _ {plan : Plan} {place : ℕ} {task : Task} {machine : Machine} {links : List ℕ} {board : Board} (ready : Ready plan place task machine links board) where
   pub sane_in : (stage : Stage) → machine.stage ≡ stage
-      → Sane plan (state_in stage machine.half machine.other (notes_in plan.site machine rows entered) (stack_of plan.site place machine halves))
-  sane_in stage e = subst (Sane plan) (in_stage plan.site place machine rows entered halves stage e) ready.sane
+      → Sane plan (state_in stage machine.half machine.other (notes_in plan.site machine board) (stack_of plan.site place machine board.halves))
+  sane_in stage e = subst (Sane plan) (in_stage plan.site place machine board stage e) ready.sane
 
-  pub untried_in : (stage : Stage) → machine.stage ≡ stage → WhileSeeking stage (Untried plan.site (marks_of plan.site rows) machine.half place machine.left)
-  untried_in stage e = subst (λ (s : Stage). WhileSeeking s (Untried plan.site (marks_of plan.site rows) machine.half place machine.left)) e ready.untried
+  pub untried_in : (stage : Stage) → machine.stage ≡ stage → WhileSeeking stage (Untried plan.site (marks_of plan.site board.rows) machine.half place machine.left)
+  untried_in stage e = subst (λ (s : Stage). WhileSeeking s (Untried plan.site (marks_of plan.site board.rows) machine.half place machine.left)) e ready.untried
 
 -- ---- the definition, by what half h tries next
 

@@ -9,6 +9,7 @@ use Rattle.machine.specs.declared.Task.{Task}
 use Rattle.machine.specs.declared.Stage.{Stage}
 use Rattle.machine.specs.declared.Stage.TheVariants.{Searching, Declining, Granting, Won, Carrying}
 use Rattle.machine.specs.declared.Machine.{Machine}
+use Rattle.machine.specs.declared.Board.{Board}
 use Rattle.machine.specs.declared.Stepped.{Stepped}
 use Rattle.machine.specs.View.{marks_of, entered_of, tried, waiting_of, notes_in, is_won, state_of, next_of}
 use Rattle.machine.specs.Sane.{Sane}
@@ -44,44 +45,50 @@ abbrev pub TopUntried : Site → ℕ → Machine → List ℕ → Type 0
 TopUntried site place machine rows = WhileSeeking machine.stage (Untried site (marks_of site rows) machine.half place machine.left)
 
 -- all this holds of a state that a run of the plan comes to. The rows of openings are those of the marks that they tell
-pub record Ready (plan : Plan) (place : ℕ) (task : Task) (machine : Machine) (links rows entered halves : List ℕ) : Type 0 where
+pub record Ready (plan : Plan) (place : ℕ) (task : Task) (machine : Machine) (links : List ℕ) (board : Board) : Type 0 where
   pub made : Made plan task links
-  pub walks : Open plan.site (marks_of plan.site rows) rows
-  pub untried : TopUntried plan.site place machine rows
-  pub sane : Sane plan (state_of plan.site place machine rows entered halves)
+  pub walks : Open plan.site (marks_of plan.site board.rows) board.rows
+  pub untried : TopUntried plan.site place machine board.rows
+  pub sane : Sane plan (state_of plan.site place machine board)
+
+-- so it is for some plan
+abbrev pub IsReady : Task → Machine → List ℕ → Board → Type 0
+IsReady task machine links board = (plan : Plan) × (place : ℕ) × Ready plan place task machine links board
 
 -- the definition's word for what happens next is what was answered, with the half on top at some place
-pub record Agrees (site : Site) (next : Next) (stepped : Stepped) (rows entered halves : List ℕ) : Type 0 where
+pub record Agrees (site : Site) (next : Next) (stepped : Stepped) (board : Board) : Type 0 where
   pub place : ℕ
-  pub untried : TopUntried site place stepped.machine rows
-  pub answers : next ≡ next_of stepped.answer (state_of site place stepped.machine rows entered halves)
+  pub untried : TopUntried site place stepped.machine board.rows
+  pub answers : next ≡ next_of stepped.answer (state_of site place stepped.machine board)
 
 -- so it is of an inner step, for every plan and place that it can be
-pub record Follows (plan : Plan) (before : State) (stepped : Stepped) (rows entered halves : List ℕ) : Type 0 where
-  pub walks : Open plan.site (marks_of plan.site rows) rows
-  pub gives : Agrees plan.site (inner_step plan before) stepped rows entered halves
+pub record Follows (plan : Plan) (before : State) (stepped : Stepped) (board : Board) : Type 0 where
+  pub walks : Open plan.site (marks_of plan.site board.rows) board.rows
+  pub gives : Agrees plan.site (inner_step plan before) stepped board
 
-abbrev pub Steps : Task → Machine → List ℕ → List ℕ → List ℕ → List ℕ → Stepped → List ℕ → List ℕ → List ℕ → Type 0
-Steps task machine links rows entered halves stepped rows' entered' halves' =
-    (plan : Plan) (place : ℕ) → Ready plan place task machine links rows entered halves
-    → Follows plan (state_of plan.site place machine rows entered halves) stepped rows' entered' halves'
+abbrev pub Steps : Task → Machine → List ℕ → Board → Stepped → Board → Type 0
+Steps task machine links board stepped board' =
+    (plan : Plan) (place : ℕ) → Ready plan place task machine links board → Follows plan (state_of plan.site place machine board) stepped board'
 
--- half y has got a PDT from the half on top, which has this left then
-pub record Received (site : Site) (machine : Machine) (y : ℕ) (rows entered halves : List ℕ) (next : Machine) (entered' halves' : List ℕ) : Type 0 where
+-- half y has got a PDT from the half on top, which has this left then; the rows are as they were
+pub record Received (site : Site) (machine : Machine) (y : ℕ) (board : Board) (next : Machine) (board' : Board) : Type 0 where
   pub place : ℕ
-  pub untried : TopUntried site place next rows
+  pub same_rows : board'.rows ≡ board.rows
+  pub untried : TopUntried site place next board'.rows
   pub state :
-      gets (eqb y (in_half site.T)) (entered_of entered y) y (notes_in site machine rows entered) (waits machine.half (tried site machine.half y) (waiting_of site halves machine.depth machine.half))
-      ≡ state_of site place next rows entered' halves'
+      gets (eqb y (in_half site.T)) (entered_of board.entered y) y (notes_in site machine board) (waits machine.half (tried site machine.half y) (waiting_of site board.halves machine.depth machine.half))
+      ≡ state_of site place next board'
 
 -- the next round has begun where one was due, and the inner step from there is the same
-pub record Continues (plan : Plan) (place : ℕ) (task : Task) (machine : Machine) (links rows entered halves : List ℕ) (next : Machine) (entered' : List ℕ) : Type 0 where
+pub record Continues (plan : Plan) (place : ℕ) (task : Task) (machine : Machine) (links : List ℕ) (board : Board) (next : Machine) (board' : Board) : Type 0 where
   pub from : ℕ
-  pub ready : Ready plan from task next links rows entered' halves
-  pub same : inner_step plan (state_of plan.site place machine rows entered halves) ≡ inner_step plan (state_of plan.site from next rows entered' halves)
+  pub ready : Ready plan from task next links board'
+  pub same : inner_step plan (state_of plan.site place machine board) ≡ inner_step plan (state_of plan.site from next board')
 
--- a round that is still won was the last
-pub record Rounds (task : Task) (machine : Machine) (links rows entered halves : List ℕ) (next : Machine) (entered' : List ℕ) : Type 0 where
-  pub continues : (plan : Plan) (place : ℕ) → Ready plan place task machine links rows entered halves → Continues plan place task machine links rows entered halves next entered'
+-- a round that is still won was the last. Nothing of the board has changed but the halves entered
+pub record Rounds (task : Task) (machine : Machine) (links : List ℕ) (board : Board) (next : Machine) (board' : Board) : Type 0 where
+  pub continues : (plan : Plan) (place : ℕ) → Ready plan place task machine links board → Continues plan place task machine links board next board'
   pub full : next.stage ≡ Won → task.k ≤ next.found
-  pub still : is_won machine.stage ≡ false → entered_of entered' ≡ entered_of entered
+  pub still : is_won machine.stage ≡ false → entered_of board'.entered ≡ entered_of board.entered
+  pub same_rows : board'.rows ≡ board.rows
+  pub same_halves : board'.halves ≡ board.halves

@@ -1,4 +1,4 @@
--- What the machine's numbers, sets and bytes stand for: the state of the token rules.
+-- What the machine's numbers and its board stand for: the state of the token rules.
 use Rattle.std.specs.Prelude.{Bool, true, false, List, ℕ, zero, suc, get_or}
 use Rattle.site.specs.Map.{Site, radio_of}
 use Rattle.tokens.specs.Rules.{Notes, Waiting, nobody, waits, State, searching, declining, granting, won, carrying, Next, sends, over}
@@ -9,6 +9,7 @@ pub use Rattle.openings.specs.Rows.{marks_of, place_in_order}
 use Rattle.machine.specs.declared.Stage.{Stage}
 use Rattle.machine.specs.declared.Stage.TheVariants.{Searching, Declining, Granting, Won, Carrying}
 use Rattle.machine.specs.declared.Machine.{Machine}
+use Rattle.machine.specs.declared.Board.{Board}
 
 -- ---- the machine after a step
 
@@ -35,8 +36,8 @@ abbrev pub waiting_of : Site → List ℕ → ℕ → ℕ → Waiting
 waiting_of site halves zero h = nobody
 waiting_of site halves (suc depth) h = waits (get_or halves depth 0) (tried site (get_or halves depth 0) h) (waiting_of site halves depth (get_or halves depth 0))
 
-abbrev pub notes_in : Site → Machine → List ℕ → List ℕ → Notes
-notes_in site machine rows entered = record { round = machine.round; found = machine.found; marks = marks_of site rows; entered = entered_of entered }
+abbrev pub notes_in : Site → Machine → Board → Notes
+notes_in site machine board = record { round = machine.round; found = machine.found; marks = marks_of site board.rows; entered = entered_of board.entered }
 
 -- by the stage, with the half that owes a reply, or the radio that S sent DONE to and the half that it has come to
 abbrev pub state_in : Stage → ℕ → ℕ → Notes → Waiting → State
@@ -57,8 +58,8 @@ is_won Carrying = false
 abbrev pub stack_of : Site → ℕ → Machine → List ℕ → Waiting
 stack_of site place machine halves = waits machine.half place (waiting_of site halves machine.depth machine.half)
 
-abbrev pub state_of : Site → ℕ → Machine → List ℕ → List ℕ → List ℕ → State
-state_of site place machine rows entered halves = state_in machine.stage machine.half machine.other (notes_in site machine rows entered) (stack_of site place machine halves)
+abbrev pub state_of : Site → ℕ → Machine → Board → State
+state_of site place machine board = state_in machine.stage machine.half machine.other (notes_in site machine board) (stack_of site place machine board.halves)
 
 -- the definition's word for an answer: a message and the state after it, or the end
 abbrev pub next_of : Answer → State → Next

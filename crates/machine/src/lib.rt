@@ -1,15 +1,17 @@
-// One inner step of the token rules, on sets of radios and bytes that the caller lends.
+// One inner step of the token rules, on a board that the caller lends.
 #![tactic(auto)]
 
-ghost use Rattle.std.specs.Prelude.{◌≡◌, false, List, ℕ, ◌+◌, ◌*◌, ◌≤◌, ◌<◌};
+ghost use Rattle.std.specs.Prelude.{◌≡◌, false, List, ℕ, ◌+◌, ◌*◌, ◌≤◌, ◌<◌, replicate};
 ghost use Rattle.site.specs.Limits.{most_radios};
 ghost use Rattle.site.specs.Map.{Site};
-ghost use Rattle.tokens.specs.Rules.{Plan, message, waits, pass_on, release};
+ghost use Rattle.tokens.specs.Rules.{Plan, message, waits, release};
 ghost use Rattle.openings.specs.Rows.{Open, Untried};
 ghost use Rattle.machine.specs.View.{is_won, marks_of, entered_of, tried, waiting_of, notes_in, moved_to, beginning_at};
-ghost use Rattle.machine.specs.Step.{Fits, Made, TopUntried, Agrees, Ready, Steps, Received, Rounds};
+ghost use Rattle.machine.specs.Step.{Fits, Made, TopUntried, Agrees, IsReady, Steps, Received, Rounds};
 
-use tokens::{Answer, Kind};
+use halves::Entered;
+use radios::Radios;
+use tokens::{Answer, Kind, Message};
 
 // The numbers of a survey: radios, the two ends, the paths wanted, and the set of the radios that may stand inside a path.
 #[derive(Clone, Copy)]
@@ -18,7 +20,7 @@ pub struct Task {
     pub s: usize,
     pub t: usize,
     pub k: usize,
-    pub passing: u64,
+    pub passing: Radios,
 }
 
 // What happens next, as the definition's states have it.
@@ -33,42 +35,51 @@ pub enum Stage {
 
 // Where the machine stands: the half on top, the half that owes it a reply, the radios that it has not tried, how many halves
 // wait below it, the rounds started and the paths found. Carrying: the half that DONE has come to, and the radio that S sent
-// it to.
+// it to. All of it stays in registers while the run goes on, the depth too: so the halves that wait are an array with a depth
+// beside it and no ArrayVec, whose length would lie in memory; and what only some stages need is in no enum, which would be copied
+// through the stack.
 #[derive(Clone, Copy)]
 pub struct Machine {
     pub stage: Stage,
     pub half: usize,
     pub other: usize,
-    pub left: u64,
+    pub left: Radios,
     pub depth: usize,
     pub round: usize,
     pub found: usize,
 }
 
-// The answer of one inner step, and where the machine stands after it.
+// What the halves keep: what each can walk to now, which were entered in the round, and those that wait, the first `depth`. Task and
+// links go beside it: a struct that holds lent parts and is changed is not covered by the borrow checker.
+#[derive(Drop)]
+pub struct Board {
+    pub rows: [Radios; 128],
+    pub entered: Entered,
+    pub halves: [u8; 128],
+}
+
+impl Board {
+    // Nothing is on the board.
+    pub fn blank() -> Board
+        ensures { result ≡ record { rows = replicate 128 0; entered = replicate 128 0; halves = replicate 128 0 } }
+    {
+        Board {
+            rows: [Radios::none(); 128],
+            entered: Entered::none(),
+            halves: [0; 128],
+        }
+    }
+}
+
+// What one inner step answers, a message or the end, and where the machine stands after it.
 #[derive(Clone, Copy)]
 pub struct Stepped {
     pub answer: Answer,
     pub machine: Machine,
 }
 
-// The machine at another stage, with another half that owes a reply, or the radio that S sent DONE to.
-fn at_stage(m: Machine, stage: Stage, other: usize) -> Machine
-    ensures { result ≡ moved_to m stage m.half other m.left m.depth }
-{
-    Machine {
-        stage,
-        half: m.half,
-        other,
-        left: m.left,
-        depth: m.depth,
-        round: m.round,
-        found: m.found,
-    }
-}
-
 // A round begins: S's out half searches.
-pub fn beginning(source: usize, rows: &[u64; 128], round: usize, found: usize) -> Machine
+pub fn beginning(source: usize, rows: &[Radios; 128], round: usize, found: usize) -> Machine
     requires { source < 2 * most_radios }
     ensures { result ≡ beginning_at source rows.now round found }
 {
@@ -88,7 +99,17 @@ fn sent(kind: Kind, from: usize, to: usize, machine: Machine) -> Stepped
     ensures { result ≡ record { answer = Answer.Sent (message kind from to); machine = machine } }
 {
     Stepped {
-        answer: Answer::Sent(tokens::telling(kind, from, to)),
+        answer: Answer::Sent(Message::new(kind, from, to)),
+        machine,
+    }
+}
+
+// The run is over.
+fn over(machine: Machine) -> Stepped
+    ensures { result ≡ record { answer = Answer.End; machine = machine } }
+{
+    Stepped {
+        answer: Answer::End,
         machine,
     }
 }
@@ -98,201 +119,205 @@ fn push(halves: &mut [u8; 128], depth: usize, h: usize)
     requires { (depth < 2 * most_radios) × (h < 2 * most_radios) }
     ensures { (site : Site) (y : ℕ) → waiting_of site halves.new (depth + 1) y ≡ waits h (tried site h y) (waiting_of site halves.old depth h) }
 {
-    let s = &mut halves[..];
-    s[depth] = h as u8;
+    halves[depth] = h as u8;
 }
 
 // ---- rule 7: DONE
 
-// Half h passes DONE over its marked step to radio w, where w is a radio. S sent it to radio v.
-fn pass_on(n: usize, machine: Machine, h: usize, v: usize, w: usize) -> Stepped
-    requires { n ≤ most_radios }
-    ensures { (site : Site) (place : ℕ) (rows entered halves : List ℕ) → site.n ≡ n → TopUntried site place machine rows → Agrees site (pass_on site h v w (notes_in site machine rows entered)) result rows entered halves }
+// Half h passes DONE over its marked step to radio w. S sent it to radio v.
+fn pass_on(machine: Machine, h: usize, v: usize, w: usize) -> Stepped
+    requires { w < most_radios }
+    ensures { result ≡ record { answer = Answer.Sent (message Kind.Done h (2 * w)); machine = moved_to machine Stage.Carrying (2 * w) v machine.left 0 } }
 {
-    if w < n {
-        let mut there = machine;
-        there.half = 2 * w;
-        there.depth = 0;
-        return sent(Kind::Done, h, 2 * w, at_stage(there, Stage::Carrying, v));
-    }
-    Stepped {
-        answer: Answer::End,
-        machine,
-    }
+    let there = Machine {
+        stage: Stage::Carrying,
+        half: 2 * w,
+        other: v,
+        depth: 0,
+        ..machine
+    };
+    sent(Kind::Done, h, 2 * w, there)
 }
 
 // S sends DONE to the first radio from v on that has a marked step from S; where there is none, all is done.
-fn releases(task: Task, machine: Machine, links: &[u64; 64], rows: &[u64; 128], v: usize) -> Stepped
-    requires { Fits task × (v ≤ task.n) }
-    ensures { (plan : Plan) (place : ℕ) (entered halves : List ℕ) → Made plan task links.now → Open plan.site (marks_of plan.site rows.now) rows.now → TopUntried plan.site place machine rows.now → Agrees plan.site (release plan.site v (notes_in plan.site machine rows.now entered)) result rows.now entered halves }
+fn releases(task: &Task, machine: Machine, links: &[Radios; 64], board: &Board, v: usize) -> Stepped
+    requires { Fits task.now × (v ≤ task.now.n) }
+    ensures { (plan : Plan) (place : ℕ) → Made plan task.now links.now → Open plan.site (marks_of plan.site board.now.rows) board.now.rows → TopUntried plan.site place machine board.now.rows → Agrees plan.site (release plan.site v (notes_in plan.site machine board.now)) result board.now }
 {
-    let w = openings::next_marked(task.s, links, rows, task.s, v);
-    pass_on(task.n, machine, 2 * task.s + 1, w, w)
+    match openings::next_marked(task.s, links, &board.rows, task.s, v) {
+        Some(w) => pass_on(machine, 2 * task.s + 1, w, w),
+        None => over(machine),
+    }
 }
 
 // DONE has come to a half: T's in half is the end of a path, an in half passes it on within its radio, an out half over its
 // marked step.
-fn carries(task: Task, machine: Machine, links: &[u64; 64], rows: &[u64; 128]) -> Stepped
-    requires { (machine.stage ≡ Stage.Carrying) × ((plan : Plan) × (place : ℕ) × (entered : List ℕ) × (halves : List ℕ) × Ready plan place task machine links.now rows.now entered halves) }
-    ensures { (entered halves : List ℕ) → Steps task machine links.now rows.now entered halves result rows.now entered halves }
+fn carries(task: &Task, machine: Machine, links: &[Radios; 64], board: &Board) -> Stepped
+    requires { (machine.stage ≡ Stage.Carrying) × IsReady task.now machine links.now board.now }
+    ensures { Steps task.now machine links.now board.now result board.now }
 {
     let h = machine.half;
     let v = machine.other;
     if h == 2 * task.t {
-        return releases(task, machine, links, rows, v + 1);
+        return releases(task, machine, links, board, v + 1);
     }
     if h % 2 == 1 {
-        let w = openings::next_marked(task.s, links, rows, h / 2, 0);
-        return pass_on(task.n, machine, h, v, w);
+        return match openings::next_marked(task.s, links, &board.rows, h / 2, 0) {
+            Some(w) => pass_on(machine, h, v, w),
+            None => over(machine),
+        };
     }
-    let mut there = machine;
-    there.half = h + 1;
+    let there = Machine {
+        half: h + 1,
+        ..machine
+    };
     sent(Kind::Done, h, h + 1, there)
 }
 
 // ---- rules 3 to 6, one function to a stage
 
 // Half y gets a PDT from the half on top: T's in half owes PMT, one that was entered before owes PDT_B, any other searches.
-fn receives(
-    task: Task,
-    machine: Machine,
-    y: usize,
-    rows: &[u64; 128],
-    entered: &mut [u8; 128],
-    halves: &mut [u8; 128],
-) -> Machine
-    requires { (task.t < most_radios) × (y < 2 * most_radios) × (machine.half < 2 * most_radios) × (machine.depth < 2 * most_radios) × (machine.stage ≡ Stage.Searching) }
-    ensures { (site : Site) → site.T ≡ task.t → Open site (marks_of site rows.now) rows.now → Untried site (marks_of site rows.now) machine.half (tried site machine.half y) machine.left → Received site machine y rows.now entered.old halves.old result entered.new halves.new }
+fn receives(task: &Task, machine: Machine, y: usize, board: &mut Board) -> Machine
+    requires { (task.now.t < most_radios) × (y < 2 * most_radios) × (machine.half < 2 * most_radios) × (machine.depth < 2 * most_radios) × (machine.stage ≡ Stage.Searching) }
+    ensures { (site : Site) → site.T ≡ task.now.t → Open site (marks_of site board.old.rows) board.old.rows → Untried site (marks_of site board.old.rows) machine.half (tried site machine.half y) machine.left → Received site machine y board.old result board.new }
 {
     if y == 2 * task.t {
-        halves::enter(entered, y);
-        return at_stage(machine, Stage::Granting, y);
+        board.entered.enter(y);
+        return Machine {
+            stage: Stage::Granting,
+            other: y,
+            ..machine
+        };
     }
-    if halves::is_entered(entered, y) {
-        return at_stage(machine, Stage::Declining, y);
+    if board.entered.is_entered(y) {
+        return Machine {
+            stage: Stage::Declining,
+            other: y,
+            ..machine
+        };
     }
-    halves::enter(entered, y);
-    push(halves, machine.depth, machine.half);
-    let mut there = machine;
-    there.half = y;
-    there.left = rows[y];
-    there.depth = machine.depth + 1;
-    there
+    board.entered.enter(y);
+    push(&mut board.halves, machine.depth, machine.half);
+    Machine {
+        half: y,
+        left: board.rows[y],
+        depth: machine.depth + 1,
+        ..machine
+    }
 }
 
 // The half on top has nothing left to try, and replies PDT_B to the half that asked it.
-fn gives_up(machine: Machine, rows: &[u64; 128], halves: &[u8; 128]) -> Stepped
-    requires { (machine.stage ≡ Stage.Searching) × (machine.left ≡ 0) × (0 < machine.depth) × ((plan : Plan) × (place : ℕ) × (task : Task) × (links : List ℕ) × (entered : List ℕ) × Ready plan place task machine links rows.now entered halves.now) }
-    ensures { (task : Task) (links entered : List ℕ) → Steps task machine links rows.now entered halves.now result rows.now entered halves.now }
+fn gives_up(machine: Machine, board: &Board) -> Stepped
+    requires { (machine.stage ≡ Stage.Searching) × (machine.left ≡ 0) × (0 < machine.depth) × ((task : Task) × (links : List ℕ) × IsReady task machine links board.now) }
+    ensures { (task : Task) (links : List ℕ) → Steps task machine links board.now result board.now }
 {
     let h = machine.half;
     let below = machine.depth - 1;
-    let asker = halves[below] as usize;
-    let mut there = machine;
-    there.half = asker;
-    there.left = openings::after(rows[asker], asker, h / 2);
-    there.depth = below;
+    let asker = board.halves[below] as usize;
+    let there = Machine {
+        half: asker,
+        left: openings::after(board.rows[asker], asker, h / 2),
+        depth: below,
+        ..machine
+    };
     sent(Kind::PdtB, h, asker, there)
 }
 
 // The half on top asks the next that it can. Where it has nothing left to try it gives up, or is S, whose round has failed.
-fn searches(
-    task: Task,
-    machine: Machine,
-    links: &[u64; 64],
-    rows: &[u64; 128],
-    entered: &mut [u8; 128],
-    halves: &mut [u8; 128],
-) -> Stepped
-    requires { (machine.stage ≡ Stage.Searching) × ((plan : Plan) × (place : ℕ) × Ready plan place task machine links.now rows.now entered.old halves.old) }
-    ensures steps { Steps task machine links.now rows.now entered.old halves.old result rows.now entered.new halves.new }
-    ensures entered_unchanged { result.answer ≡ Answer.End → entered_of entered.new ≡ entered_of entered.old }
+fn searches(task: &Task, machine: Machine, links: &[Radios; 64], board: &mut Board) -> Stepped
+    requires { (machine.stage ≡ Stage.Searching) × IsReady task.now machine links.now board.old }
+    ensures steps { Steps task.now machine links.now board.old result board.new }
+    ensures entered_unchanged { result.answer ≡ Answer.End → entered_of board.new.entered ≡ entered_of board.old.entered }
 {
-    if radios::is_empty(machine.left) {
+    if machine.left.is_empty() {
         if machine.depth == 0 {
-            return releases(task, machine, links, rows, 0);
+            return releases(task, machine, links, board, 0);
         }
-        return gives_up(machine, rows, halves);
+        return gives_up(machine, board);
     }
     let h = machine.half;
     let y = openings::next(machine.left, h);
-    let mut asking = machine;
-    asking.left = radios::without(machine.left, y / 2);
-    let there = receives(task, asking, y, rows, entered, halves);
+    let asking = Machine {
+        left: machine.left.without(y / 2),
+        ..machine
+    };
+    let there = receives(task, asking, y, board);
     sent(Kind::Pdt, h, y, there)
 }
 
 // The half that was asked, and entered before, replies PDT_B to the half on top.
 fn declines(machine: Machine) -> Stepped
     requires { machine.stage ≡ Stage.Declining }
-    ensures { (task : Task) (links rows entered halves : List ℕ) → Steps task machine links rows entered halves result rows entered halves }
+    ensures { (task : Task) (links : List ℕ) (board : Board) → Steps task machine links board result board }
 {
-    let on_top = at_stage(machine, Stage::Searching, machine.other);
+    let on_top = Machine {
+        stage: Stage::Searching,
+        ..machine
+    };
     sent(Kind::PdtB, machine.other, machine.half, on_top)
 }
 
 // The half that was asked replies PMT to the half on top, which reverses their step's mark and owes PMT in its turn, or is S,
 // whose round is won.
-fn grants(machine: Machine, rows: &mut [u64; 128], halves: &[u8; 128]) -> Stepped
-    requires { (machine.stage ≡ Stage.Granting) × ((plan : Plan) × (place : ℕ) × (task : Task) × (links : List ℕ) × (entered : List ℕ) × Ready plan place task machine links rows.old entered halves.now) }
-    ensures { (task : Task) (links entered : List ℕ) → Steps task machine links rows.old entered halves.now result rows.new entered halves.now }
+fn grants(machine: Machine, board: &mut Board) -> Stepped
+    requires { (machine.stage ≡ Stage.Granting) × ((task : Task) × (links : List ℕ) × IsReady task machine links board.old) }
+    ensures steps { (task : Task) (links : List ℕ) → Steps task machine links board.old result board.new }
+    ensures entered_unchanged { board.new.entered ≡ board.old.entered }
 {
     let h = machine.half;
     let y = machine.other;
-    openings::turn(rows, h, y);
-    let mut there = machine;
+    openings::turn(&mut board.rows, h, y);
     if machine.depth == 0 {
-        there.found = machine.found + 1;
-        return sent(Kind::Pmt, y, h, at_stage(there, Stage::Won, y));
+        let won = Machine {
+            stage: Stage::Won,
+            found: machine.found + 1,
+            ..machine
+        };
+        return sent(Kind::Pmt, y, h, won);
     }
     let below = machine.depth - 1;
-    there.half = halves[below] as usize;
-    there.other = h;
-    there.depth = below;
+    let there = Machine {
+        half: board.halves[below] as usize,
+        other: h,
+        depth: below,
+        ..machine
+    };
     sent(Kind::Pmt, y, h, there)
 }
 
 // ---- rule 1
 
 // Where a round is won and fewer than k paths are found, the next one begins. At every other stage nothing happens.
-fn next_round(task: Task, machine: Machine, rows: &[u64; 128], entered: &mut [u8; 128]) -> Machine
-    requires { (task.s < most_radios) × (machine.stage ≡ Stage.Won → machine.round ≤ machine.found) }
-    ensures { (links halves : List ℕ) → Rounds task machine links rows.now entered.old halves result entered.new }
+fn next_round(task: &Task, machine: &Machine, board: &mut Board) -> Machine
+    requires { (task.now.s < most_radios) × (machine.now.stage ≡ Stage.Won → machine.now.round ≤ machine.now.found) }
+    ensures { (links : List ℕ) → Rounds task.now machine.now links board.old result board.new }
 {
-    let stage = machine.stage;
-    let Stage::Won = stage else {
-        return machine;
+    let Stage::Won = machine.stage else {
+        return *machine;
     };
     if machine.found >= task.k {
-        return machine;
+        return *machine;
     }
     let source = 2 * task.s + 1;
-    halves::enter_only(entered, source);
-    beginning(source, rows, machine.round + 1, machine.found)
+    board.entered.enter_only(source);
+    beginning(source, &board.rows, machine.round + 1, machine.found)
 }
 
 // One inner step: the message that the rules send next, or the end of the run, and where the machine stands after it.
-// What the lent rows and bytes hold then is the definition's state once the message is delivered. The end of the run leaves
-// the halves entered as they were, but for a round that was won, after which the next may have begun.
-pub fn step(
-    task: Task,
-    machine: Machine,
-    links: &[u64; 64],
-    rows: &mut [u64; 128],
-    entered: &mut [u8; 128],
-    halves: &mut [u8; 128],
-) -> Stepped
-    requires { (plan : Plan) × (place : ℕ) × Ready plan place task machine links.now rows.old entered.old halves.old }
-    ensures steps { Steps task machine links.now rows.old entered.old halves.old result rows.new entered.new halves.new }
-    ensures entered_unchanged { result.answer ≡ Answer.End → is_won machine.stage ≡ false → entered_of entered.new ≡ entered_of entered.old }
+// What the lent board holds then is the definition's state once the message is delivered. The end of the run leaves the
+// halves entered as they were, but for a round that was won, after which the next may have begun. It goes by the stage, since
+// the token rules give an inner step for each of their states.
+pub fn step(task: &Task, machine: &Machine, links: &[Radios; 64], board: &mut Board) -> Stepped
+    requires { IsReady task.now machine.now links.now board.old }
+    ensures steps { Steps task.now machine.now links.now board.old result board.new }
+    ensures entered_unchanged { result.answer ≡ Answer.End → is_won machine.now.stage ≡ false → entered_of board.new.entered ≡ entered_of board.old.entered }
 {
-    let current = next_round(task, machine, rows, entered);
-    let stage = current.stage;
-    match stage {
-        Stage::Searching => searches(task, current, links, rows, entered, halves),
+    let current = next_round(task, machine, board);
+    match current.stage {
+        Stage::Searching => searches(task, current, links, board),
         Stage::Declining => declines(current),
-        Stage::Granting => grants(current, rows, halves),
-        Stage::Won => releases(task, current, links, rows, 0),
-        Stage::Carrying => carries(task, current, links, rows),
+        Stage::Granting => grants(current, board),
+        Stage::Won => releases(task, current, links, board, 0),
+        Stage::Carrying => carries(task, current, links, board),
     }
 }

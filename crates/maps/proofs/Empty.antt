@@ -6,18 +6,10 @@ use Prim.Native.Nat.{ℕ, ◌≤◌}
 use native.Mathlib.Omega.{arith}
 use lib.ListN.{get_or}
 use borrow.Author.Tests.{le-ltb}
-use Rattle.basics.specs.Counting.{sum, first_within}
 use Rattle.buffers.specs.Zeros.{zeros_after}
-use Rattle.site.specs.Map.{linked, links, handheld, exists, passes, inside_step, link_step, step, A}
-use Rattle.refusals.specs.Refusals.{cell_finding, finding_at, first_bad, finding, map_verdict, pair_verdict, room_verdict, verdict}
-use Rattle.tokens.specs.Rules.{may_walk, candidate, can_try, next_place, gets, next_marked, pass_on, release, carry, tries, search, reversed, grant, decline, go_on, inner_step, start}
-use Rattle.tokens.specs.Run.{run_on, walked, cut_item, item_of}
-use Rattle.outcome.specs.Leaves.{run_of, paths_found, cut_found, outcome}
-use Rattle.captures.specs.Text.{pieces, same, all_digits, value, digits}
-use Rattle.captures.specs.Capture.{head_of, line_of, wrong_line, lines_of, came, fault_line, table_with}
-use Rattle.sheet_lines.specs.Lines.{refused_line, report_line, radio_fields, path_lines, cut_lines}
-use Rattle.text_survey.specs.Survey.{survey_for, survey_of}
-use Rattle.sheet_text.specs.Sheet.{sheet_of, sheet, sheet_room, sheet_in}
+use Rattle.sheet_lines.specs.Lines.{refused_line}
+use Rattle.sheet_text.specs.Sheet.{sheet, sheet_room, sheet_in}
+use Rattle.maps.proofs.Computed.{sheet_computes}
 
 -- net 1 2 0 1 1: two radios that are not linked, one path wanted
 abbrev apart : List ℕ
@@ -29,7 +21,7 @@ linked_pair = apart ++ (108 ∷ 105 ∷ 110 ∷ 107 ∷ 9 ∷ 48 ∷ 9 ∷ 49 �
 
 -- report 1 short 0 1 0
 apart_sheet : sheet apart ≡ 114 ∷ 101 ∷ 112 ∷ 111 ∷ 114 ∷ 116 ∷ 9 ∷ 49 ∷ 9 ∷ 115 ∷ 104 ∷ 111 ∷ 114 ∷ 116 ∷ 9 ∷ 48 ∷ 9 ∷ 49 ∷ 9 ∷ 48 ∷ 10 ∷ []
-unfolding sum first_within linked links handheld exists passes inside_step link_step step A cell_finding finding_at first_bad finding map_verdict pair_verdict room_verdict verdict may_walk candidate can_try next_place gets next_marked pass_on release carry tries search reversed grant decline go_on inner_step start run_on walked cut_item item_of run_of paths_found cut_found outcome pieces same all_digits value digits head_of line_of wrong_line lines_of came fault_line table_with survey_for survey_of refused_line report_line radio_fields path_lines cut_lines sheet_of sheet
+unfolding sheet_computes
 apart_sheet = refl
 
 -- report 1 full 1 1 3, and the path 0 1
@@ -37,7 +29,7 @@ linked-sheet :
     sheet linked_pair
     ≡ 114 ∷ 101 ∷ 112 ∷ 111 ∷ 114 ∷ 116 ∷ 9 ∷ 49 ∷ 9 ∷ 102 ∷ 117 ∷ 108 ∷ 108 ∷ 9 ∷ 49 ∷ 9 ∷ 49 ∷ 9 ∷ 51 ∷ 10
     ∷ 112 ∷ 97 ∷ 116 ∷ 104 ∷ 9 ∷ 49 ∷ 9 ∷ 48 ∷ 9 ∷ 49 ∷ 10 ∷ []
-unfolding sum first_within linked links handheld exists passes inside_step link_step step A cell_finding finding_at first_bad finding map_verdict pair_verdict room_verdict verdict may_walk candidate can_try next_place gets next_marked pass_on release carry tries search reversed grant decline go_on inner_step start run_on walked cut_item item_of run_of paths_found cut_found outcome pieces same all_digits value digits head_of line_of wrong_line lines_of came fault_line table_with survey_for survey_of refused_line report_line radio_fields path_lines cut_lines sheet_of sheet
+unfolding sheet_computes
 linked-sheet = refl
 
 module _ (room : ℕ) (enough : sheet_room ≤ room) where

@@ -1,2 +1,4 @@
+pub mod Computed
 pub mod Empty
 pub mod Rows
+pub mod Sheets

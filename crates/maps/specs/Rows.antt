@@ -1,5 +1,5 @@
 -- "Maps on both sides of each edge" of document 01, the last row as document 02 amends it: the ten rows, three maps with handhelds, and the case Q with k = 3 given whole. proofs/Rows.antt proves them.
-use Rattle.std.specs.Prelude.{Bool, true, false, List, [], ◌∷◌, ℕ, ◌+◌, ◌-◌, ◌*◌, eqb, length, set, replicate}
+use Rattle.std.specs.Prelude.{Bool, true, false, cond, Result, Ok, Err, List, [], ◌∷◌, ℕ, ◌+◌, ◌-◌, ◌*◌, eqb, length, set, replicate}
 use Rattle.site.specs.Map.{A}
 use Rattle.refusals.specs.Refusals.{Call, call_of}
 use Rattle.outcome.specs.declared.Outcome.{Outcome}
@@ -36,44 +36,37 @@ pub record RefusalResult : Type 0 where
   pub path_list : List ℕ
   pub cut_list : List ℕ
 
-pub data Result : Type 0 where
-  ran : RunResult → Result
-  refused : RefusalResult → Result
-
--- by the definitions
-abbrev pub result_of : Call → Result
+-- a run, or a refusal: by the definitions
+abbrev pub result_of : Call → Result RunResult RefusalResult
 result_of call =
     let o = outcome call in
-    elim (eqb o.refusal 0) [
-      | true ↦
-          ran
-          (record {
-            place = o.place;
-            full = eqb o.paths call.k;
-            paths = o.paths;
-            rounds = o.rounds;
-            messages = o.messages;
-            path_list = paths_left call;
-            cut_list = cut_left call;
-            A = A call.site;
-          })
-      | false ↦
-          refused
-          (record {
-            number = o.refusal;
-            place = o.place;
-            counts = o.paths ∷ o.rounds ∷ o.messages ∷ [];
-            log = log_left call;
-            path_list = paths_left call;
-            cut_list = cut_left call;
-          })
-    ]
+    cond (eqb o.refusal 0)
+    (Ok
+    (record {
+      place = o.place;
+      full = eqb o.paths call.k;
+      paths = o.paths;
+      rounds = o.rounds;
+      messages = o.messages;
+      path_list = paths_left call;
+      cut_list = cut_left call;
+      A = A call.site;
+    }))
+    (Err
+    (record {
+      number = o.refusal;
+      place = o.place;
+      counts = o.paths ∷ o.rounds ∷ o.messages ∷ [];
+      log = log_left call;
+      path_list = paths_left call;
+      cut_list = cut_left call;
+    }))
 
 -- ---- the table's rows
 
 pub record MapRow : Type 0 where
   pub made : Call
-  pub result : Result
+  pub result : Result RunResult RefusalResult
 
 -- n, links, S, T, k; full, the paths, rounds, messages, the cut, A. The place is 0, and each buffer is just long enough
 abbrev pub accepts : ℕ → List (ℕ × ℕ) → ℕ → ℕ → ℕ → Bool → List (List ℕ) → ℕ → ℕ → List ℕ → ℕ → MapRow
@@ -82,7 +75,7 @@ accepts n list S T k full paths rounds messages cut steps =
     record {
       made = call_of n (table_of n list) S T k (4 * ((2 * k + 1) * steps)) paths_length k;
       result =
-          ran
+          Ok
           (record {
             place = 0;
             full = full;
@@ -101,7 +94,7 @@ refuses n table S T k number place =
     record {
       made = call_of n table S T k 12 3 1;
       result =
-          refused
+          Err
           (record { number = number; place = place; counts = 0 ∷ 0 ∷ 0 ∷ []; log = replicate 12 0; path_list = replicate 3 0; cut_list = replicate 1 0 });
     }
 

@@ -1,4 +1,5 @@
-// The log: four bytes a message, written and read here alone.
+// The log: four bytes a message, written and read here alone. A message is told by its number, in every promise too, so that the log
+// goes with a number and has no end of its own.
 #![tactic(auto)]
 
 ghost use Rattle.std.specs.Prelude.{◌≡◌, suc, eqb};
@@ -13,7 +14,7 @@ use tokens::{Kind, Message};
 pub const MESSAGE_BYTES: usize = 4;
 
 // A message as its bytes stand in the log. The kind is a byte: a log from elsewhere may hold any.
-#[derive(Clone, Copy)]
+#[derive(Clone, Copy, Debug, PartialEq, Eq)]
 pub struct RawMessage {
     pub kind: u8,
     pub round: u8,
@@ -21,15 +22,12 @@ pub struct RawMessage {
     pub to: u8,
 }
 
-// A kind's number in the log.
-fn kind_number(kind: Kind) -> u8
-    ensures { result ≡ kind_number kind }
-{
-    match kind {
-        Kind::Pdt => 1,
-        Kind::PdtB => 2,
-        Kind::Pmt => 3,
-        Kind::Done => 4,
+impl RawMessage {
+    // Is it a DONE?
+    pub fn is_done(self) -> bool
+        ensures { result ≡ eqb self.kind (kind_number Done) }
+    {
+        self.kind == Kind::Done as u8
     }
 }
 
@@ -38,15 +36,15 @@ pub fn put(log: &mut [u8], at: usize, message: Message, round: usize)
     requires { Writable log.old at message round }
     ensures { Appends at (record { message = message; round = round }) log.old log.new }
 {
-    let kind = message.kind;
+    // One store a byte: copying an array of the four takes eight instructions more.
     let place = MESSAGE_BYTES * at;
-    log[place] = kind_number(kind);
+    log[place] = message.kind as u8;
     log[place + 1] = round as u8;
     log[place + 2] = message.from as u8;
     log[place + 3] = message.to as u8;
 }
 
-// Reads message number `at` of the log.
+// Reads message number `at` of the log. A pattern over a slice of four bytes would need an arm for other lengths.
 pub fn message_at(log: &[u8], at: usize) -> RawMessage
     requires { RoomFor (suc at) log.now }
     ensures { result ≡ raw_at log.now at }
@@ -58,11 +56,4 @@ pub fn message_at(log: &[u8], at: usize) -> RawMessage
         from: log[place + 2],
         to: log[place + 3],
     }
-}
-
-// Is this the kind of a DONE?
-pub fn is_done(kind: u8) -> bool
-    ensures { result ≡ eqb kind (kind_number Done) }
-{
-    kind == kind_number(Kind::Done)
 }

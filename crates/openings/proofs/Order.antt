@@ -2,7 +2,8 @@
 use mathlib.Core.Path.{◌≡◌, refl, sym, ap, ◌∙◌, subst}
 use mathlib.Core.Bool.{Bool, true, false, not, cond, ◌&&◌, ◌||◌, and-false, or-true, not-not}
 use mathlib.Core.List.{List}
-use Prim.Native.Nat.{ℕ, suc, ◌+◌, ◌-◌, ◌*◌, ◌%◌, ◌^◌, ◌≤◌, ◌<◌}
+use Prim.Native.Nat.{ℕ, zero, suc, ◌+◌, ◌-◌, ◌*◌, ◌%◌, ◌^◌, ◌≤◌, ◌<◌}
+use native.Mathlib.Nat.{pow-suc}
 use native.Mathlib.Decide.{ℕ_discrete, dec_lt}
 use native.Mathlib.Omega.{arith}
 use lib.Dec.{eqb, ltb, leb}
@@ -11,11 +12,13 @@ use borrow.Author.Tests.{eq-eqb, ne_eqb, lt-ltb, le-ltb, le-leb, lt-leb, leb-tru
 use Rattle.basics.specs.Counting.{First, first_within, first_from}
 use Rattle.basics.proofs.Bools.{clash, and_left, and_right, not_true→false}
 use Rattle.basics.proofs.Counting.{first_is, first-from}
-use Rattle.radios.specs.Member.{member}
+use Rattle.radios.specs.Member.{member, or_64}
 use Rattle.radios.proofs.Laws.{member-empty, some_member}
+use Rattle.std.specs.Prelude.{Option, Some, None, IfSome}
 use Rattle.site.specs.Map.{Site, linked_on, in_half, out_half, radio_of, is_out, step}
+use Rattle.site.proofs.Steps.{step_of, step-below}
 use Rattle.tokens.specs.Rules.{Plan, Marks, may_walk, rising, candidate, can_try, next_place, next_marked}
-use Rattle.openings.specs.Rows.{across, Open, OnSteps, place_in_order, Untried, NextRadio, or_none}
+use Rattle.openings.specs.Rows.{across, Open, OnSteps, place_in_order, Untried, NextRadio, NextMarked}
 use Rattle.radios.specs.Links.{RowsOfLinks}
 use Rattle.openings.proofs.Walks.{from_out, walk_below, walk_step, step-out}
 
@@ -72,6 +75,10 @@ unfolding can_try
 try_own site marks h v e = rw (eq-eqb v (radio_of h) e) refl
 
 -- ---- the next place
+
+below_power : (x : ℕ) → x < 2 ^ x
+below_power zero = omega arith
+below_power (suc x) = omega (arith, below_power x, pow-suc 2 x)
 
 -- where all places are tried
 pub from_past : (plan : Plan) (marks : Marks) (h place : ℕ) → plan.site.n + 1 < place → next_place plan marks h place ≡ place
@@ -208,14 +215,14 @@ module _ (plan : Plan) (marks : Marks) (h place left : ℕ) (order : plan.order 
         before v l (yes e) = absurd (omega (arith, own_place plan.site h v e, own_later, (stays plan.site marks h place left r all is_left).below))
 
     -- where there is none of them, its own is
-    pub next_own : others ≡ 0 → left < 2 ^ 64 → (left ≡ 0 → ⊥) → NextRadio plan marks h place (radio_of h)
-    next_own none small some = found (radio_of h) own (λ v p l. not_other v (λ e. omega (arith, ap (place_in_order plan.site h) e)))
+    pub next_own : others ≡ 0 → (left ≡ 0 → ⊥) → NextRadio plan marks h place (radio_of h)
+    next_own none some = found (radio_of h) own (λ v p l. not_other v (λ e. omega (arith, ap (place_in_order plan.site h) e)))
       where
         not_other : (v : ℕ) → (v ≡ radio_of h → ⊥) → member v left ≡ false
         not_other v e = sym (other_left v e) ∙ rw none (member-empty v)
 
         own : member (radio_of h) left ≡ true
-        own = let w = some_member 64 left small some in pick w.0 w.2 (ℕ_discrete w.0 (radio_of h))
+        own = let w = some_member left left (below_power left) some in pick w.0 w.2 (ℕ_discrete w.0 (radio_of h))
           where
             pick : (v : ℕ) → member v left ≡ true → Dec (v ≡ radio_of h) → member (radio_of h) left ≡ true
             pick v is (yes e) = rw e at is
@@ -264,18 +271,22 @@ module _ (site : Site) (marks : Marks) (u : ℕ) (nt : u ≡ site.T → ⊥) (ro
       go false b true e d = clash d refl
       go false b false e d = sym (not_true→false _ (λ t. clash (on _ _ t) e))
 
-  module _ (set v r : ℕ) (few : site.n ≤ 64) (start : v ≤ site.n) (is_set : (w : ℕ) → member w set ≡ marks (out_half u) (in_half w)) (first : First (λ w. member w set) v 64 r) where
-    -- r is it, or no radio of the map: then there is none
-    pub marked_next : next_marked site marks (out_half u) v ≡ or_none site r
+  module _ (set v : ℕ) (few : site.n ≤ 64) (start : v ≤ site.n) (is_set : (w : ℕ) → member w set ≡ marks (out_half u) (in_half w)) where
+    pub marked_next : (found : Option ℕ) → First (λ w. member w set) v 64 (or_64 found) → IfSome found (λ w. w < 64) → NextMarked site marks (out_half u) v found
     unfolding next_marked
-    marked_next = pick (dec_lt r site.n)
-      where
-        pick : Dec (r < site.n) → next_marked site marks (out_half u) v ≡ or_none site r
-        pick (yes l) =
-            rw (lt-ltb r site.n l)
-            (first_is (λ w. marks (out_half u) (in_half w)) v site.n r start
-            (record { from = first.from; within = omega arith; before = λ j p q. sym (is_set j) ∙ first.before j p q; found = λ q. sym (is_set r) ∙ first.found (omega arith) }))
-        pick (no l) =
-            rw (le-ltb r site.n (omega arith))
-            (first_is (λ w. marks (out_half u) (in_half w)) v site.n site.n start
-            (record { from = start; within = omega arith; before = λ j p q. sym (is_set j) ∙ first.before j p (omega arith); found = λ q. absurd (omega arith) }))
+    marked_next None first below =
+        record {
+          next =
+              first_is (λ w. marks (out_half u) (in_half w)) v site.n site.n start
+              (record { from = start; within = omega arith; before = λ j p q. sym (is_set j) ∙ first.before j p (omega arith); found = λ q. absurd (omega arith) });
+          a_radio = tt;
+        }
+    marked_next (Some r) first below =
+        let marked : marks (out_half u) (in_half r) ≡ true = sym (is_set r) ∙ first.found below in
+        let radio : r < site.n = omega (arith, (step-below site (out_half u) (in_half r) (step_of site (out_half u) (in_half r) (on _ _ marked))).1) in
+        record {
+          next =
+              first_is (λ w. marks (out_half u) (in_half w)) v site.n r start
+              (record { from = first.from; within = omega arith; before = λ j p q. sym (is_set j) ∙ first.before j p q; found = λ q. marked });
+          a_radio = radio;
+        }

@@ -1,9 +1,9 @@
 -- What each half can walk to now, as a set of radios for each half: the rows and what they stand for.
-use Rattle.std.specs.Prelude.{◌≡◌, true, not, cond, ◌&&◌, List, ◌⊎◌, ℕ, ◌*◌, ◌<◌, eqb, ltb, leb, get_or}
+use Rattle.std.specs.Prelude.{◌≡◌, true, not, cond, ◌&&◌, List, Option, Some, None, ◌⊎◌, ℕ, ◌*◌, ◌<◌, eqb, leb, get_or, IfSome}
 use Rattle.radios.specs.Member.{member}
 use Rattle.site.specs.Limits.{most_radios}
 use Rattle.site.specs.Map.{Site, in_half, out_half, radio_of, is_out, step}
-use Rattle.tokens.specs.Rules.{Plan, Marks, may_walk, rising, next_place}
+use Rattle.tokens.specs.Rules.{Plan, Marks, may_walk, rising, next_place, next_marked}
 
 -- ---- the rows
 
@@ -43,9 +43,15 @@ pub record NextHalf (left h y : ℕ) : Type 0 where
 
 -- ---- the marked steps
 
--- a radio's number as it is; any other stands for none, as n does
-abbrev pub or_none : Site → ℕ → ℕ
-or_none site w = cond (ltb w site.n) w site.n
+-- a radio's number; n, where there is none
+abbrev pub or_none : Site → Option ℕ → ℕ
+or_none site None = site.n
+or_none site (Some w) = w
+
+-- the first radio from v on with a marked step from half h to it, if there is one
+pub record NextMarked (site : Site) (marks : Marks) (h v : ℕ) (found : Option ℕ) : Type 0 where
+  pub next : next_marked site marks h v ≡ or_none site found
+  pub a_radio : IfSome found (λ w. w < site.n)
 
 -- ---- what is leant on
 

@@ -1,7 +1,9 @@
 // The numbers that every call leaves, refused or not.
 #![tactic(auto)]
 
-// Refusal number and place (0 for an accepted run), paths found, rounds started, messages sent.
+ghost use Rattle.std.specs.Prelude.{◌≡◌};
+
+// Refusal number and place (0 for an accepted run), paths found, rounds started, messages sent: numbers, as C has them.
 #[repr(C)]
 #[derive(Clone, Copy)]
 pub struct Outcome {
@@ -10,4 +12,19 @@ pub struct Outcome {
     pub paths: usize,
     pub rounds: usize,
     pub messages: usize,
+}
+
+impl Outcome {
+    // What is left by a call that is refused: the refusal and its place, and nothing counted.
+    pub fn refused(refusal: usize, place: usize) -> Outcome
+        ensures { result ≡ record { refusal = refusal; place = place; paths = 0; rounds = 0; messages = 0 } }
+    {
+        Outcome {
+            refusal,
+            place,
+            paths: 0,
+            rounds: 0,
+            messages: 0,
+        }
+    }
 }

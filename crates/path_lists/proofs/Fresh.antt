@@ -1,6 +1,6 @@
 -- The radios inside a path, judged one by one against a set of those seen. Assumes nothing.
 use mathlib.Core.Path.{◌≡◌, refl, sym, ap, subst, ◌∙◌}
-use mathlib.Core.Bool.{Bool, true, false, not, ◌&&◌, ◌||◌, and_assoc, and-false, false≢true}
+use mathlib.Core.Bool.{Bool, true, false, not, ◌&&◌, ◌||◌, and_assoc, and-false}
 use mathlib.Core.List.{List, [], ◌∷◌, ◌++◌}
 use mathlib.Core.Logic.{◌⊎◌, inl, inr}
 use Prim.Native.Nat.{ℕ, suc, ◌+◌, ◌≤◌, ◌<◌}
@@ -12,7 +12,7 @@ use borrow.Author.Tests.{lt-ltb, le-ltb}
 use Rattle.basics.specs.Lists.{among}
 use Rattle.radios.specs.Member.{member}
 use Rattle.path_lists.specs.Judge.{fresh}
-use Rattle.path_lists.specs.Seen.{IsSet, InnerSeen}
+use Rattle.path_lists.specs.Seen.{IsSet}
 
 -- ---- lists
 
@@ -66,20 +66,14 @@ module _ (n set : ℕ) (before inside : List ℕ) (i : ℕ) (so_far : FineSoFar 
   }
 
   -- the next one is not
-  pub one_bad : (taken : Bool) → i < length inside → (n ≤ v) ⊎ (member v set ≡ true) → InnerSeen n before inside taken record { fine = false; direct = taken; set = set }
+  pub one_bad : i < length inside → (n ≤ v) ⊎ (member v set ≡ true) → fresh n before inside ≡ false
   unfolding fresh
-  one_bad taken more bad = record {
-    fine_is = sym (ap (fresh n before) (split_at inside i 0 more) ∙ fresh-append n before (take i inside) (v ∷ drop (suc i) inside) ∙ rw (so_far.fine, sym (so_far.set_is v)) (go bad));
-    direct_is = refl;
-    set_is = λ e. absurd (false≢true e);
-  }
+  one_bad more bad = ap (fresh n before) (split_at inside i 0 more) ∙ fresh-append n before (take i inside) (v ∷ drop (suc i) inside) ∙ rw (so_far.fine, sym (so_far.set_is v)) (go bad)
     where
       go : (n ≤ v) ⊎ (member v set ≡ true) → (ltb v n && not (member v set) && fresh n (v ∷ (take i inside ++ before)) (drop (suc i) inside)) ≡ false
       go (inl high) = rw (le-ltb v n high) refl
       go (inr seen) = rw (seen, and-false (ltb v n)) refl
 
   -- there is none
-  pub all_fine : (taken : Bool) → length inside ≤ i → InnerSeen n before inside taken record { fine = true; direct = taken; set = set }
-  all_fine taken end =
-      let all = subst (FineSoFar n set before) (take_all i inside end) so_far in
-      record { fine_is = sym all.fine; direct_is = refl; set_is = λ e. all.set_is }
+  pub all_fine : length inside ≤ i → FineSoFar n set before inside
+  all_fine end = subst (FineSoFar n set before) (take_all i inside end) so_far

@@ -3,11 +3,11 @@ use mathlib.Core.Path.{◌≡◌, refl, sym, ap, ◌∙◌, subst}
 use mathlib.Core.Bool.{true, false≢true}
 use mathlib.Core.List.{List, [], ◌∷◌, ◌++◌, append_assoc, nil≢cons, cons≢nil, head-eq_of_cons-eq, tail-eq_of_cons-eq}
 use Prim.Native.Nat.{ℕ, zero, suc, ◌+◌, ◌≤◌}
-use native.Mathlib.Nat.{zero-add, suc-add}
 use native.Mathlib.Omega.{arith}
 use lib.Dec.{leb}
+use Rattle.std.proofs.lemmas.List.{drop-take}
 use lib.ListN.{length, take, drop, length-append, length-take, take-append-drop}
-use lib.Seq.{length-take-le, take-nil, drop-append_seam, take-append_seam, take-take, take-add}
+use lib.Seq.{length-take-le, drop-append_seam, take-append_seam, take-take, take-add}
 use borrow.Author.Tests.{leb-true, le-leb}
 use Rattle.basics.proofs.Bools.{and_left, and_right, both_ways}
 use Rattle.path_lists.specs.Bytes.{path_bytes, Holds}
@@ -51,16 +51,11 @@ held_read (suc count) (size ∷ list) h =
 
 -- ---- what stands after the last path
 
-drop_take : (n m : ℕ) (list : List ℕ) → drop n (take (n + m) list) ≡ take m (drop n list)
-drop_take zero m list = rw (zero-add m) refl
-drop_take (suc n) m [] = rw (suc-add n m) (sym (take-nil m))
-drop_take (suc n) m (x ∷ list) = rw (suc-add n m) (drop_take n m list)
-
 -- two lists with one front agree on the first part of it, and after that on the second
 same_parts : (n m : ℕ) (list other : List ℕ) → take (n + m) other ≡ take (n + m) list → (take n other ≡ take n list) × (take m (drop n other) ≡ take m (drop n list))
 same_parts n m list other same = (
   sym (take-take n (n + m) other (omega arith)) ∙ ap (take n) same ∙ take-take n (n + m) list (omega arith),
-  sym (drop_take n m other) ∙ ap (drop n) same ∙ drop_take n m list,
+  sym (drop-take n m other) ∙ ap (drop n) same ∙ drop-take n m list,
 )
 
 -- a list is long enough if it has the front of one that is

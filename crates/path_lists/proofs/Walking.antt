@@ -1,15 +1,14 @@
 -- A list that holds known paths, read path by path: what every loop over a path list leans on. Assumes nothing.
 use mathlib.Core.Path.{◌≡◌, refl, sym, ap, ◌∙◌}
 use mathlib.Core.List.{List, [], ◌∷◌, ◌++◌, append_assoc}
-use Prim.Native.Nat.{ℕ, suc, ◌+◌, ◌-◌, ◌≤◌, ◌<◌}
+use Prim.Native.Nat.{ℕ, suc, ◌+◌, ◌≤◌, ◌<◌}
 use native.Mathlib.Nat.{add-zero}
 use native.Mathlib.Numerals.{add-one}
 use native.Mathlib.Omega.{arith}
 use lib.ListN.{length, get_or, take, drop, length-append, length-drop, take-append-drop}
 use lib.Seq.{get_or-drop, drop-drop, take-append_seam, drop_at, drop-cons, take-suc}
 use Rattle.path_lists.specs.Bytes.{path_bytes, Holds}
-use Rattle.path_lists.specs.declared.Part.{Part}
-use Rattle.path_lists.specs.Reading.{part_at, Inside, in_part, path_place}
+use Rattle.path_lists.specs.Reading.{Inside, path_at, path_place}
 use Rattle.path_lists.proofs.Bytes.{path-bytes-append, one_path_bytes}
 
 -- a list with these bytes at its front holds the paths
@@ -21,12 +20,11 @@ pub at_front : (paths : List (List ℕ)) → 0 ≡ path_place paths 0
 unfolding path_bytes
 at_front paths = refl
 
--- path number i is what a part of the list holds, and the next one stands at its end
-pub record Stands (list : List ℕ) (paths : List (List ℕ)) (i : ℕ) (part : Part) : Type 0 where
-  pub ordered : part.start ≤ part.end
-  pub inside : part.end ≤ length list
-  pub radios : in_part list part ≡ get_or paths i []
-  pub next : part.end ≡ path_place paths (i + 1)
+-- path number i stands at this place, and the next one after it
+pub record Stands (list : List ℕ) (paths : List (List ℕ)) (i at : ℕ) (path : List ℕ) : Type 0 where
+  pub inside : at + 1 + length path ≤ length list
+  pub radios : path ≡ get_or paths i []
+  pub next : at + 1 + length path ≡ path_place paths (i + 1)
 
 module _ {list : List ℕ} {count : ℕ} {paths : List (List ℕ)} (holds : Holds list count paths) (i at : ℕ) (below : i < count) (here : at ≡ path_place paths i) where
   abbrev path : List ℕ
@@ -56,16 +54,13 @@ module _ {list : List ℕ} {count : ℕ} {paths : List (List ℕ)} (holds : Hold
   pub path_inside : Inside list at
   path_inside = omega (arith, counts, simp length-drop at (ap length from_here), simp length-append at (ap length past_count), length-drop (at + 1) list)
 
-  pub path_stands : {part : Part} → part ≡ part_at list at → Stands list paths i part
-  path_stands {part} read =
-      let starts : part.start ≡ at + 1 = ap (λ (p : Part). p.start) read in
-      let ends : part.end ≡ at + 1 + length path = ap (λ (p : Part). p.end) read ∙ ap (λ (n : ℕ). at + 1 + n) counts in
-      let size : part.end - part.start ≡ length path = omega arith in
+  pub path_stands : {read : List ℕ} → read ≡ path_at list at → Stands list paths i at read
+  path_stands {read} is =
+      let same : read ≡ path = is ∙ rw (counts, past_count) (take-append_seam path after) in
       let grown : path_place paths (i + 1) ≡ path_place paths i + suc (length path) =
       rw (add-one, take-suc paths i [] more, path-bytes-append, one_path_bytes) (length-append (path_bytes (take i paths)) (length path ∷ path)) in
       record {
-        ordered = omega arith;
-        inside = omega (arith, path_inside, counts);
-        radios = rw (size, starts, past_count) (take-append_seam path after);
-        next = omega (arith, grown);
+        inside = omega (arith, path_inside, counts, ap length same);
+        radios = same;
+        next = omega (arith, grown, ap length same);
       }

@@ -1,19 +1,18 @@
 -- A path list read path by path.
-use Rattle.std.specs.Prelude.{Bool, true, false, ◌&&◌, List, [], ◌∷◌, ℕ, zero, suc, ◌+◌, ◌-◌, ◌≤◌, leb, length, get_or, take, drop}
+use Rattle.std.specs.Prelude.{Bool, true, false, ◌&&◌, List, [], ◌∷◌, ℕ, zero, suc, ◌+◌, ◌≤◌, leb, length, get_or, take, drop}
 use Rattle.path_lists.specs.Bytes.{path_bytes}
-use Rattle.path_lists.specs.declared.Part.{Part}
 
--- the part of the list that the number of radios at this place marks out
-abbrev pub part_at : List ℕ → ℕ → Part
-part_at list at = record { start = at + 1; end = at + 1 + get_or list at 0 }
+-- where the path at this place ends, and the next one stands: its number of radios stands before them
+abbrev pub path_end : List ℕ → ℕ → ℕ
+path_end list at = at + 1 + get_or list at 0
 
 -- the list does not end before it
 abbrev pub Inside : List ℕ → ℕ → Type 0
-Inside list at = (part_at list at).end ≤ length list
+Inside list at = path_end list at ≤ length list
 
--- what stands in a part
-abbrev pub in_part : List ℕ → Part → List ℕ
-in_part list part = take (part.end - part.start) (drop part.start list)
+-- its radios
+abbrev pub path_at : List ℕ → ℕ → List ℕ
+path_at list at = take (get_or list at 0) (drop (at + 1) list)
 
 -- where path number i stands: after those before it
 abbrev pub path_place : List (List ℕ) → ℕ → ℕ

@@ -2,141 +2,118 @@
 // is judged here.
 #![tactic(auto)]
 
-ghost use Rattle.std.specs.Prelude.{◌≡◌, false, ◌&&◌, List, [], ◌∷◌, ℕ, ◌≤◌, ◌<◌, leb, length};
+ghost use Rattle.std.specs.Prelude.{◌≡◌, false, not, ◌&&◌, ◌||◌, List, [], ◌∷◌, ◌++◌, ℕ, ◌+◌, ◌≤◌, ◌<◌, leb, length};
 ghost use Rattle.site.specs.Limits.{most_radios};
-ghost use Rattle.path_lists.specs.Reading.{part_at, Inside, readable, paths_read};
-ghost use Rattle.path_lists.specs.Judge.{joins, sound_after, is_sound};
-ghost use Rattle.path_lists.specs.Seen.{IsSet, InnerSeen, PathSeen};
+ghost use Rattle.path_lists.specs.Reading.{path_end, Inside, path_at, readable, paths_read};
+ghost use Rattle.path_lists.specs.Judge.{inner, fresh, joins, is_direct, sound_after, is_sound};
+ghost use Rattle.path_lists.specs.Seen.{IsSet, SeesIf};
 
-// Where the radios of one path stand in a list: from `start` up to `end`, and the next path stands at `end`.
-#[derive(Clone, Copy)]
-pub struct Part {
-    pub start: usize,
-    pub end: usize,
-}
+use radios::Radios;
 
-// The path at this place of the list, which must be long enough for it.
-pub fn part_at(list: &[u8], at: usize) -> Part
+// The radios of the path at this place of the list, which must be long enough for it. The next path stands one byte and so many
+// radios further on.
+pub fn path_at(list: &[u8], at: usize) -> &[u8]
     requires { Inside list.now at }
-    ensures { result ≡ part_at list.now at }
+    ensures radios { result.now ≡ path_at list.now at }
+    ensures next { at + 1 + length result.now ≡ path_end list.now at }
+    ensures inside { at + 1 + length result.now ≤ length list.now }
 {
     let start = at + 1;
-    Part {
-        start,
-        end: start + list[at] as usize,
-    }
+    &list[start..start + list[at] as usize]
 }
 
-// Is the list long enough for the path at this place?
+// Is the list long enough for the path at this place? A list is walked by places: it does not say where its paths stand.
 pub fn is_whole(list: &[u8], at: usize) -> bool
-    ensures { result ≡ leb (part_at list.now at).end (length list.now) }
+    ensures { result ≡ leb (path_end list.now at) (length list.now) }
 {
-    if at >= list.len() {
-        return false;
-    }
-    (list[at] as usize) < list.len() - at
+    at < list.len() && (list[at] as usize) < list.len() - at
 }
 
-// What the judge has seen of a list: whether all is in order so far, whether a path took the direct link, and the radios that
-// may stand inside no further path.
+// What the judge has seen of a list that is in order so far: whether a path took the direct link, and the radios that may stand
+// inside no further path.
 #[derive(Clone, Copy)]
 struct Seen {
-    fine: bool,
     direct: bool,
-    set: u64,
+    set: Radios,
 }
 
-// Does the path lead from s to t, with two radios or more?
-#[tactic(auto, unfolding(crate::specs::Judge::joins))]
-fn joins(path: &[u8], s: u8, t: u8) -> bool
-    ensures { result ≡ joins s t path.now }
-{
-    if path.len() < 2 {
-        return false;
-    }
-    if path[0] != s {
-        return false;
-    }
-    path[path.len() - 1] == t
+// The two ends of all paths, radios below n.
+#[derive(Clone, Copy)]
+struct Ends {
+    n: usize,
+    s: u8,
+    t: u8,
+    ghost few: { n ≤ most_radios },
+    ghost below: { (s < n) × (t < n) },
 }
 
-// The radios inside a path join those seen: each must be below n and none of them.
-fn with_inner(inside: &[u8], n: usize, seen: Seen) -> Seen
-    requires { n ≤ most_radios }
-    ensures { (before : List ℕ) → IsSet seen.set before → InnerSeen n before inside.now seen.direct result }
-{
-    let mut set = seen.set;
-    for i in 0..inside.len() {
-        let v = inside[i] as usize;
-        if v >= n || radios::has(set, v) {
-            return Seen {
-                fine: false,
-                direct: seen.direct,
-                set,
-            };
+impl Seen {
+    // The radios inside a path besides: each must be below n and none of those seen.
+    fn with_inner(self, inside: &[u8], n: usize) -> Option<Seen>
+        requires { n ≤ most_radios }
+        ensures { (before : List ℕ) → IsSet self.set before → SeesIf (fresh n before inside.now) (inside.now ++ before) self.direct result }
+    {
+        let mut set = self.set;
+        for v in inside {
+            let v = *v as usize;
+            if v >= n || set.has(v) {
+                return None;
+            }
+            set = set.with(v);
         }
-        set = radios::with(set, v);
+        Some(Seen { set, ..self })
     }
-    Seen {
-        fine: true,
-        direct: seen.direct,
-        set,
+
+    // One path besides, from end to end: two radios or more, the direct link once at most, and inside it no radio twice.
+    #[tactic(auto, unfolding(crate::specs::Judge::joins, crate::specs::Judge::fresh))]
+    fn with_path(self, path: &[u8], ends: Ends) -> Option<Seen>
+        ensures { (before : List ℕ) → IsSet self.set before → SeesIf (joins ends.s ends.t path.now && not (self.direct && is_direct path.now) && fresh ends.n before (inner path.now)) (inner path.now ++ before) (self.direct || is_direct path.now) result }
+    {
+        let [first, inside @ .., last] = path else {
+            return None;
+        };
+        if *first != ends.s || *last != ends.t {
+            return None;
+        }
+        if inside.is_empty() {
+            if self.direct {
+                return None;
+            }
+            return Some(Seen {
+                direct: true,
+                ..self
+            });
+        }
+        self.with_inner(inside, ends.n)
     }
 }
 
-// One path more, from s to t: the direct link once at most, and inside it no radio twice.
-fn with_path(path: &[u8], n: usize, s: u8, t: u8, seen: Seen) -> Seen
-    requires { n ≤ most_radios }
-    ensures { (before : List ℕ) → IsSet seen.set before → PathSeen n s t before seen.direct path.now result }
+// Are the first `count` paths of the list whole, from end to end and disjoint?
+fn are_sound(list: &[u8], count: usize, ends: Ends) -> bool
+    ensures { result ≡ (readable count list.now && sound_after ends.n ends.s ends.t (ends.s ∷ ends.t ∷ []) false (paths_read count list.now)) }
 {
-    if !joins(path, s, t) {
-        return Seen {
-            fine: false,
-            direct: seen.direct,
-            set: seen.set,
-        };
-    }
-    if path.len() == 2 {
-        return Seen {
-            fine: !seen.direct,
-            direct: true,
-            set: seen.set,
-        };
-    }
-    with_inner(&path[1..path.len() - 1], n, seen)
-}
-
-// Are the first `count` paths of the list whole, from s to t and disjoint? The two ends are different radios below n.
-fn are_sound(list: &[u8], count: usize, n: usize, s: u8, t: u8) -> bool
-    requires n_le_most_radios { n ≤ most_radios }
-    requires s_lt_n { (s < n) × (t < n) }
-    ensures { result ≡ (readable count list.now && sound_after n s t (s ∷ t ∷ []) false (paths_read count list.now)) }
-{
-    let ends = radios::with(radios::with(0, t as usize), s as usize);
     let mut seen = Seen {
-        fine: true,
         direct: false,
-        set: ends,
+        set: Radios::none().with(ends.t as usize).with(ends.s as usize),
     };
-    let mut at = 0;
+    let mut rest = list;
+    // So many paths are asked for, and where the next stands the one before says.
     for _ in 0..count {
-        if !is_whole(list, at) {
+        if !is_whole(rest, 0) {
             return false;
         }
-        let part = part_at(list, at);
-        let start = part.start;
-        let end = part.end;
-        seen = with_path(&list[start..end], n, s, t, seen);
-        if !seen.fine {
+        let path = path_at(rest, 0);
+        let Some(next) = seen.with_path(path, ends) else {
             return false;
-        }
-        at = end;
+        };
+        seen = next;
+        rest = &rest[1 + path.len()..];
     }
     true
 }
 
 // Does the list hold so many whole paths at its front, disjoint lists of two or more different radios below n with the same first
-// and the same last? What stands after them is not read.
+// and the same last? What stands after them is not read. n is a caller's number, and its bound a clause.
 pub fn is_sound(list: &[u8], count: usize, n: usize) -> bool
     requires { n ≤ most_radios }
     ensures { result ≡ (readable count list.now && is_sound n (paths_read count list.now)) }
@@ -147,15 +124,11 @@ pub fn is_sound(list: &[u8], count: usize, n: usize) -> bool
     if !is_whole(list, 0) {
         return false;
     }
-    let first = part_at(list, 0);
-    let end = first.end;
-    if end < 3 {
+    let [s, .., t] = path_at(list, 0) else {
+        return false;
+    };
+    if *s as usize >= n || *t as usize >= n || s == t {
         return false;
     }
-    let s = list[1];
-    let t = list[end - 1];
-    if s as usize >= n || t as usize >= n || s == t {
-        return false;
-    }
-    are_sound(list, count, n, s, t)
+    are_sound(list, count, Ends { n, s: *s, t: *t })
 }

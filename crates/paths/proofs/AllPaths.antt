@@ -3,8 +3,9 @@ use mathlib.Core.Path.{◌≡◌, refl, sym, ap, ◌∙◌}
 use mathlib.Core.List.{List, [], ◌∷◌, ◌++◌, append_assoc, append-nil}
 use Prim.Native.Nat.{ℕ, ◌+◌, ◌≤◌, ◌<◌}
 use native.Mathlib.Omega.{arith}
-use lib.ListN.{length, take, drop, length-append, length-drop, drop_of_length-le}
+use lib.ListN.{length, take, drop, length-append, length-drop}
 use lib.Seq.{take_at, drop_at, drop-drop}
+use Rattle.std.specs.Prelude.{Option, None, Some}
 use Rattle.basics.specs.Lists.{All}
 use Rattle.site.specs.Limits.{most_radios}
 use Rattle.site.specs.Map.{Site, out_half, radio_of}
@@ -13,8 +14,8 @@ use Rattle.message_log.specs.Read.{raw_at}
 use Rattle.path_lists.specs.Bytes.{path_bytes}
 use Rattle.path_lists.proofs.Bytes.{path-bytes-append, one_path_bytes}
 use Rattle.paths.specs.declared.Walk.{Walk}
-use Rattle.paths.specs.Listing.{LogOf, Arrives, Listable, PathsLeft, FirstDone, NextArrival, Walks, Startable, PathLeft}
-use Rattle.paths.proofs.Log.{done_goes_on, none_before}
+use Rattle.paths.specs.Listing.{LogOf, Arrives, Listable, PathsLeft, FirstDone, NextArrival, entries_from, Walks, Startable, PathLeft}
+use Rattle.paths.proofs.Log.{later_arrives, done_goes_on, none_before}
 use Rattle.paths.proofs.Walking.{path_starts, path_goes_on}
 
 -- what each of a list has, one in its middle has
@@ -23,19 +24,17 @@ all_middle P [] x back all = all.0
 all_middle P (y ∷ front) x back all = all_middle P front x back all.1
 
 -- no message before the first DONE reaches a radio, so the first that does is found from there on
-pub first_arrival : {log : List ℕ} {messages s : ℕ} {list : List ℕ} {first at : ℕ} → Listable log messages s list → FirstDone log messages first → NextArrival log first messages at → NextArrival log 0 messages at
-first_arrival {first = first} asked done arrival =
+pub first_arrival : {log : List ℕ} {messages s : ℕ} {list : List ℕ} {first : ℕ} {next : Option ℕ} → Listable log messages s list → FirstDone log messages first → NextArrival log first messages next → NextArrival log 0 messages next
+first_arrival {log} {messages} {first = first} {next = next} asked done arrival =
     record {
-      after = omega arith;
-      within = arrival.within;
-      arrives = arrival.arrives;
+      arrives = later_arrives log messages next (omega arith) arrival.arrives;
       passed = λ s' site entries told. none_before told (done_goes_on asked.told asked.dones_last) first done.within done.other ∙ arrival.passed s' site entries told;
     }
 
--- so many paths are listed in so many bytes, and those from message number `at` on are to come
-pub record Halfway (before list : List ℕ) (used count at : ℕ) (site : Site) (entries : List Entry) : Type 0 where
+-- so many paths are listed in so many bytes, and those from the next message on are to come
+pub record Halfway (before list : List ℕ) (used count : ℕ) (next : Option ℕ) (site : Site) (entries : List Entry) : Type 0 where
   pub listed : List (List ℕ)
-  pub whole : paths_of site entries ≡ listed ++ paths_of site (drop at entries)
+  pub whole : paths_of site entries ≡ listed ++ paths_of site (entries_from next entries)
   pub counted : count ≡ length listed
   pub sized : used ≡ length (path_bytes listed)
   pub written : list ≡ path_bytes listed ++ drop used before
@@ -45,7 +44,7 @@ abbrev path_from : List ℕ → ℕ → ℕ → Site → List Entry → List ℕ
 path_from log at s site entries = s ∷ radio_of (raw_at log at).to ∷ (walked site (drop (at + 1) entries)).onward
 
 module _ {log : List ℕ} {messages s : ℕ} {site : Site} {entries : List Entry} (told : LogOf log messages s site entries) where
-  pub none_listed : (list : List ℕ) {at : ℕ} → NextArrival log 0 messages at → Halfway list list 0 0 at site entries
+  pub none_listed : (list : List ℕ) {next : Option ℕ} → NextArrival log 0 messages next → Halfway list list 0 0 next site entries
   unfolding path_bytes
   none_listed list arrival =
       record {
@@ -59,18 +58,17 @@ module _ {log : List ℕ} {messages s : ℕ} {site : Site} {entries : List Entry
   pub walks_here : (at : ℕ) → at < messages → Arrives (raw_at log at) → (raw_at log at).from ≡ out_half s → Walks log at messages s site entries (path_from log at s site entries) (paths_of site (drop (at + 1) entries))
   walks_here at l is sent = record { told = told; first = ap (λ (w : Walked). w.paths) (path_starts told at l is sent) }
 
-  module _ {before list : List ℕ} {used count at : ℕ} (half : Halfway before list used count at site entries) where
-    pub all_listed : messages ≤ at → PathsLeft site entries before list (record { used = used; paths = count })
-    unfolding walked
-    all_listed l =
-        let none : drop at entries ≡ [] = drop_of_length-le entries {i = at} (omega (arith, told.number)) in
-        let all : paths_of site entries ≡ half.listed = half.whole ∙ rw none (append-nil half.listed) in
-        record { paths = rw all half.counted; used = rw all half.sized; written = rw all half.written }
+  pub all_listed : {before list : List ℕ} {used count : ℕ} → Halfway before list used count None site entries → PathsLeft site entries before list (record { used = used; paths = count })
+  unfolding walked
+  all_listed half =
+      let all : paths_of site entries ≡ half.listed = half.whole ∙ append-nil half.listed in
+      record { paths = rw all half.counted; used = rw all half.sized; written = rw all half.written }
 
+  module _ {before list : List ℕ} {used count at : ℕ} (half : Halfway before list used count (Some at) site entries) where
     -- a DONE that belongs to no path is passed over
-    pub none_starts : {at' : ℕ} → at < messages → Arrives (raw_at log at) → ((raw_at log at).from ≡ out_half s → ⊥) → NextArrival log (at + 1) messages at' → Halfway before list used count at' site entries
-    none_starts {at'} l is other arrival =
-        let same : paths_of site (drop at entries) ≡ paths_of site (drop at' entries) =
+    pub none_starts : {next : Option ℕ} → at < messages → Arrives (raw_at log at) → ((raw_at log at).from ≡ out_half s → ⊥) → NextArrival log (at + 1) messages next → Halfway before list used count next site entries
+    none_starts {next} l is other arrival =
+        let same : paths_of site (drop at entries) ≡ paths_of site (entries_from next entries) =
         ap (λ (w : Walked). w.paths) (path_goes_on told at l is other) ∙ ap (λ (w : Walked). w.paths) (arrival.passed s site entries told) in
         record { listed = half.listed; whole = half.whole ∙ rw same refl; counted = half.counted; sized = half.sized; written = half.written }
 
@@ -99,7 +97,7 @@ module _ {log : List ℕ} {messages s : ℕ} {site : Site} {entries : List Entry
           }
 
 -- the path that starts at message number `at` can be written to the rest of the list
-pub can_start : {log : List ℕ} {messages s : ℕ} {before list : List ℕ} {used count at : ℕ} (asked : Listable log messages s before) → Halfway before list used count at asked.site asked.entries → length list ≡ length before
+pub can_start : {log : List ℕ} {messages s : ℕ} {before list : List ℕ} {used count at : ℕ} (asked : Listable log messages s before) → Halfway before list used count (Some at) asked.site asked.entries → length list ≡ length before
     → at < messages → Arrives (raw_at log at) → (raw_at log at).from ≡ out_half s → Startable log at messages s (drop used list)
 can_start {log} {s = s} {at = at} asked half same l is sent =
     let site = asked.site in

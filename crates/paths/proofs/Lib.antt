@@ -1,4 +1,3 @@
 pub mod Log
 pub mod Walking
-pub mod Tail
 pub mod AllPaths

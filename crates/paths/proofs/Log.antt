@@ -2,13 +2,15 @@
 use mathlib.Core.Path.{◌≡◌, refl, sym, ap, ◌∙◌}
 use mathlib.Core.Bool.{Bool, true, false}
 use mathlib.Core.List.{List, [], ◌∷◌}
-use Prim.Native.Nat.{ℕ, zero, suc, ◌+◌, ◌%◌, ◌≤◌, ◌<◌}
+use Prim.Native.Nat.{ℕ, zero, suc, ◌+◌, ◌-◌, ◌%◌, ◌≤◌, ◌<◌}
+use native.Mathlib.Nat.{add-zero}
 use native.Mathlib.Numerals.{add-one}
 use native.Mathlib.Omega.{arith}
 use lib.Dec.{eqb}
 use borrow.Author.Tests.{eq-eqb, ne_eqb, eqb-true, eqb-false}
-use lib.ListN.{length, get_or, drop}
+use lib.ListN.{length, get_or, drop, drop_of_length-le}
 use lib.Seq.{drop-cons}
+use Rattle.std.specs.Prelude.{Option, None, Some, MatchOption}
 use Rattle.basics.specs.Lists.{AnyTwo}
 use Rattle.site.specs.Map.{Site, out_half, radio_of, is_out}
 use Rattle.tokens.specs.Rules.{message}
@@ -20,7 +22,7 @@ use Rattle.message_log.specs.Bytes.{kind_number, RoomFor}
 use Rattle.message_log.specs.Read.{raw_at, raw_of}
 use Rattle.message_log.specs.Last.{DonesLast}
 use Rattle.message_log.proofs.Read.{starts_room, read_at, only_done}
-use Rattle.paths.specs.Listing.{LogOf, Arrives}
+use Rattle.paths.specs.Listing.{LogOf, Arrives, Arrival, NextArrival}
 
 -- ---- what a message says of the paths
 
@@ -82,39 +84,54 @@ module _ {log : List ℕ} {messages s : ℕ} {site : Site} {entries : List Entry
         says ∙ to_in_half kind site _ _ _ (only_done kind (sym kind_read ∙ is.done)) (ne_eqb ((raw_at log at).to % 2) 1 (λ (odd : (raw_at log at).to % 2 ≡ 1). omega (arith, is.into)))
         ∙ ap (λ b. reaches b (radio_of (raw_at log at).from) (radio_of (raw_at log at).to) (walked site (drop (at + 1) entries))) sent
 
--- ---- the DONEs
+-- the sender of what was read at a number
+pub from_is : (log : List ℕ) (at : ℕ) {heard : RawMessage} → heard ≡ raw_at log at → (raw_at log at).from ≡ heard.from
+from_is log at read = ap (λ (m : RawMessage). m.from) (sym read)
+
+-- ---- messages that are passed over
+
+module _ {log : List ℕ} {messages s : ℕ} {site : Site} {entries : List Entry} (told : LogOf log messages s site entries) where
+  -- none is left after the last
+  none_left : drop messages entries ≡ []
+  none_left = drop_of_length-le entries {i = messages} (omega (arith, told.number))
+
+  -- a message that is no DONE, or goes to an out half, says nothing
+  passed_over : (at : ℕ) → at < messages → (Arrives (raw_at log at) → ⊥) → walked site (drop at entries) ≡ walked site (drop (at + 1) entries)
+  passed_over at below other = by_kind _ refl
+    where
+      by_kind : (done : Bool) → eqb (raw_at log at).kind (kind_number Done) ≡ done → walked site (drop at entries) ≡ walked site (drop (at + 1) entries)
+      by_kind false is = no_done told at below (eqb-false _ _ is)
+      by_kind true is = within_radio told at below (λ even. other (record { done = eqb-true _ _ is; into = even }))
+
+  all_passed : (from n : ℕ) → from + n ≤ messages → ((at : ℕ) → from ≤ at → at < from + n → Arrives (raw_at log at) → ⊥) → walked site (drop from entries) ≡ walked site (drop (from + n) entries)
+  all_passed from zero l none = rw add-zero refl
+  all_passed from (suc n) l none =
+      let next : from + n + 1 ≡ from + suc n = omega arith in
+      all_passed from n (omega arith) (λ at a b. none at a (omega arith)) ∙ rw next at (passed_over (from + n) (omega arith) (none (from + n) (omega arith) (omega arith)))
+
+  -- so do messages none of which reaches a radio
+  silent : (from to : ℕ) → from ≤ to → to ≤ messages → ((at : ℕ) → from ≤ at → at < to → Arrives (raw_at log at) → ⊥) → walked site (drop from entries) ≡ walked site (drop to entries)
+  silent from to l m none =
+      let there : from + (to - from) ≡ to = omega arith in
+      rw there at (all_passed from (to - from) (omega arith) (λ at a b. none at a (omega arith)))
+
+-- a message from a number on stands after each lower number too
+pub later_arrives : (log : List ℕ) (messages : ℕ) {from from' : ℕ} (r : Option ℕ) → from' ≤ from → Arrival log from messages r → Arrival log from' messages r
+later_arrives log messages None l arrival = tt
+later_arrives log messages (Some at) l arrival = (omega (arith, arrival.0), arrival.1, arrival.2)
+
+-- the first message that reaches a radio, where it was looked for
+pub found_first : {log : List ℕ} {from messages : ℕ} (r : Option ℕ) → from ≤ messages
+    → MatchOption r ((at : ℕ) → from ≤ at → at < messages → Arrives (raw_at log at) → ⊥) (λ i. (from ≤ i) × (i < messages) × Arrives (raw_at log i) × ((at : ℕ) → from ≤ at → at < i → Arrives (raw_at log at) → ⊥))
+    → NextArrival log from messages r
+found_first {from = from} {messages = messages} None l none = record { arrives = tt; passed = λ s site entries told. silent told from messages l (omega arith) none ∙ ap (walked site) (none_left told) }
+found_first {from = from} (Some at) l found = record { arrives = (found.0, found.1, found.2); passed = λ s site entries told. silent told from at found.0 (omega (arith, found.1)) found.3 }
+
+-- ---- the DONEs that end the log
 
 -- message number `at` is a DONE
 abbrev pub DoneAt : List ℕ → ℕ → Type 0
 DoneAt log at = (raw_at log at).kind ≡ kind_number Done
-
--- ---- what was read at a number, in the words of the log
-
-module _ (log : List ℕ) (at : ℕ) {heard : RawMessage} (read : heard ≡ raw_at log at) where
-  pub kind_is : (raw_at log at).kind ≡ heard.kind
-  kind_is = ap (λ (m : RawMessage). m.kind) (sym read)
-
-  pub from_is : (raw_at log at).from ≡ heard.from
-  from_is = ap (λ (m : RawMessage). m.from) (sym read)
-
-  pub to_is : (raw_at log at).to ≡ heard.to
-  to_is = ap (λ (m : RawMessage). m.to) (sym read)
-
-  pub goes_to_out : eqb (heard.to % 2) 0 ≡ false → (raw_at log at).to % 2 ≡ 0 → ⊥
-  goes_to_out is = rw to_is (eqb-false (heard.to % 2) 0 is)
-
-  -- with what the log's room answers of the kind
-  module _ {answer : Bool} (told : answer ≡ eqb heard.kind (kind_number Done)) where
-    pub is-done : answer ≡ true → DoneAt log at
-    is-done is = kind_is ∙ eqb-true heard.kind (kind_number Done) (sym told ∙ is)
-
-    pub is_other : answer ≡ false → DoneAt log at → ⊥
-    is_other is done = eqb-false heard.kind (kind_number Done) (sym told ∙ is) (sym kind_is ∙ done)
-
-    pub arrives : answer ≡ true → eqb (heard.to % 2) 0 ≡ true → Arrives (raw_at log at)
-    arrives is even = record { done = is-done is; into = rw to_is (eqb-true (heard.to % 2) 0 even) }
-
--- ---- the DONEs that end the log
 
 -- any two that stand next to each other are in the relation
 next_two : {A : Type 0} (R : A → A → Type 0) (list : List A) (i : ℕ) (other : A) → AnyTwo R list → suc i < length list → R (get_or list i other) (get_or list (suc i) other)

@@ -1,5 +1,5 @@
 -- What the contracts of this crate say of the log that is read and of the path list that is written.
-use Rattle.std.specs.Prelude.{◌≡◌, List, ◌∷◌, ◌++◌, ℕ, suc, ◌+◌, ◌%◌, ◌≤◌, ◌<◌, length, drop}
+use Rattle.std.specs.Prelude.{◌≡◌, Option, None, Some, IfSome, List, [], ◌∷◌, ◌++◌, ℕ, suc, ◌+◌, ◌%◌, ◌≤◌, ◌<◌, length, drop}
 use Rattle.basics.specs.Lists.{All}
 use Rattle.site.specs.Limits.{most_radios}
 use Rattle.site.specs.Map.{Site, out_half}
@@ -39,7 +39,7 @@ pub record PathsLeft (site : Site) (entries : List Entry) (before after : List �
 
 -- ---- within the crate: one path of the path list
 
--- r is the first of the DONEs that end the log, or the number of messages
+-- r messages stand before the DONEs that end the log
 pub record FirstDone (log : List ℕ) (messages r : ℕ) : Type 0 where
   pub within : r ≤ messages
   pub done : (at : ℕ) → r ≤ at → at < messages → (raw_at log at).kind ≡ kind_number Done
@@ -50,16 +50,19 @@ pub record Arrives (heard : RawMessage) : Type 0 where
   pub done : heard.kind ≡ kind_number Done
   pub into : heard.to % 2 ≡ 0
 
--- the messages from one number up to another say nothing of paths
-abbrev pub Silent : List ℕ → ℕ → ℕ → ℕ → Type 0
-Silent log messages from r = (s : ℕ) (site : Site) (entries : List Entry) → LogOf log messages s site entries → walked site (drop from entries) ≡ walked site (drop r entries)
+-- the messages from this one on; none where there is none
+abbrev pub entries_from : Option ℕ → List Entry → List Entry
+entries_from None entries = []
+entries_from (Some at) entries = drop at entries
 
--- r is the first message from a number on that reaches a radio, or the number of messages
-pub record NextArrival (log : List ℕ) (from messages r : ℕ) : Type 0 where
-  pub after : from ≤ r
-  pub within : r ≤ messages
-  pub arrives : r < messages → Arrives (raw_at log r)
-  pub passed : Silent log messages from r
+-- r is no message, or one from a number on that reaches a radio
+abbrev pub Arrival : List ℕ → ℕ → ℕ → Option ℕ → Type 0
+Arrival log from messages r = IfSome r (λ at. (from ≤ at) × (at < messages) × Arrives (raw_at log at))
+
+-- r is the first message from a number on that reaches a radio, if there is one: those passed say nothing of paths
+pub record NextArrival (log : List ℕ) (from messages : ℕ) (r : Option ℕ) : Type 0 where
+  pub arrives : Arrival log from messages r
+  pub passed : (s : ℕ) (site : Site) (entries : List Entry) → LogOf log messages s site entries → walked site (drop from entries) ≡ walked site (entries_from r entries)
 
 -- from message number `at` on DONE walks this path first, and then those
 pub record Walks (log : List ℕ) (at messages s : ℕ) (site : Site) (entries : List Entry) (path : List ℕ) (later : List (List ℕ)) : Type 0 where
@@ -84,11 +87,9 @@ pub record Startable (log : List ℕ) (at messages s : ℕ) (rest : List ℕ) : 
 pub record PathLeft (site : Site) (entries : List Entry) (path : List ℕ) (later : List (List ℕ)) (before after : List ℕ) (walk : Walk) : Type 0 where
   pub used : walk.used ≡ suc (length path)
   pub written : after ≡ (length path ∷ path) ++ drop walk.used before
-  pub next : paths_of site (drop walk.next entries) ≡ later
+  pub next : paths_of site (entries_from walk.next entries) ≡ later
 
 -- the walk ends at a later message that reaches a radio, or with the messages
 pub record WalkEnded (log : List ℕ) (at messages s : ℕ) (before after : List ℕ) (walk : Walk) : Type 0 where
-  pub further : at < walk.next
-  pub within : walk.next ≤ messages
-  pub arrives : walk.next < messages → Arrives (raw_at log walk.next)
+  pub arrives : Arrival log (at + 1) messages walk.next
   pub left : (site : Site) (entries : List Entry) (path : List ℕ) (later : List (List ℕ)) → Walks log at messages s site entries path later → PathLeft site entries path later before after walk

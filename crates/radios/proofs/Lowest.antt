@@ -42,6 +42,10 @@ unfolding count_trailing_zeros
 zeros_first zero x = record { from = omega arith; within = omega arith; before = λ j l h. absurd (omega arith); found = λ h. absurd (omega arith) }
 zeros_first (suc k) x = first_with_lowest k x (count_trailing_zeros k (x / 2)) (zeros_first k (x / 2))
 
+-- an empty set has none
+pub empty_first : (x k : ℕ) → x ≡ 0 → First (λ j. member j x) 0 k k
+empty_first x k e = record { from = omega arith; within = omega arith; before = λ j l h. ap (member j) e ∙ member-empty j; found = λ h. absurd (omega arith) }
+
 -- and it is below k where the set of k digits is not empty
 pub first_below : (k x r : ℕ) → x < 2 ^ k → (x ≡ 0 → ⊥) → First (λ j. member j x) 0 k r → r < k
 first_below k x r h ne w = pick (dec_lt r k)

@@ -8,6 +8,7 @@ use native.Mathlib.Omega.{arith}
 use native.Mathlib.Decide.{dec_lt, ℕ_discrete}
 use lib.Dec.{eqb, ltb}
 use lib.ListN.{length, get_or}
+use Rattle.std.specs.Prelude.{Ok}
 use borrow.Author.Tests.{ltb-false, le-ltb, lt-ltb, eq-eqb, ne_eqb}
 use Rattle.basics.specs.Numbered.{NoneHolds}
 use Rattle.basics.proofs.Bools.{not_true→false}
@@ -20,7 +21,6 @@ use Rattle.site.proofs.Valid.{Valid}
 use Rattle.message_log.specs.Bytes.{message_bytes}
 use Rattle.refusals.specs.Refusals.{Call, no_size, finding, log_needs, paths_need, verdict, number}
 use Rattle.refusals.specs.Conditions.{Fault, mirror, cell_conditions, map_conditions, pair_conditions, room_conditions}
-use Rattle.refusals.specs.declared.Finding.TheVariants.{Sound}
 use Rattle.refusals.proofs.Exactly.{finds_nothing, bad_number, sound_table, cells_exact, call_exact}
 
 -- ---- a table without faults
@@ -61,7 +61,7 @@ pub record SoundMap (table : List ℕ) (n : ℕ) : Type 0 where
   pub few_radios : n ≤ most_radios
   pub long : length table ≡ n * n
   pub no_fault : (place : ℕ) → place < n * n → Fault table n place → ⊥
-  pub sound : finding table n ≡ Sound
+  pub sound : finding table n ≡ Ok tt
   pub even : Even table n
   pub few_links : links table n ≤ most_links
 
@@ -70,7 +70,7 @@ sound_map table n (radios, (length-differs, others)) =
     let some : n < 2 → ⊥ = λ p. radios (inl p) in
     let few : most_radios < n → ⊥ = λ p. radios (inr p) in
     let (cells, (many-links, end)) = none_parts (cell_conditions table n) ((4, most_links < links table n) ∷ []) others in
-    let sound : finding table n ≡ Sound = finds_nothing (finding table n) (not_true→false _ (λ bad. bad_number (finding table n) bad ((cells_exact table n).law.none.1 cells))) in
+    let sound : finding table n ≡ Ok tt = finds_nothing (finding table n) (not_true→false _ (λ bad. bad_number (finding table n) bad ((cells_exact table n).law.none.1 cells))) in
     let no_fault = sound_table table n sound in
     record { two_radios = omega arith; few_radios = omega arith; long = go (ℕ_discrete _ _); no_fault = no_fault; sound = sound; even = even_links table n no_fault; few_links = omega arith }
   where

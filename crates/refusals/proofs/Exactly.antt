@@ -1,6 +1,6 @@
 -- Demand 1 over the refusals: each number is given exactly when its own condition holds and none before it does. Assumes nothing.
 use mathlib.Core.Path.{◌≡◌, refl, sym, ap, ◌∙◌}
-use mathlib.Core.Bool.{Bool, true, false, not, ◌||◌, cond, true≢false, false≢true}
+use mathlib.Core.Bool.{Bool, true, false, not, cond, true≢false, false≢true}
 use mathlib.Core.List.{List, [], ◌∷◌, ◌++◌}
 use mathlib.Core.Logic.{◌⊎◌, ◌↔◌, inl, inr}
 use Prim.Native.Nat.{ℕ, ◌+◌, ◌*◌, ◌/◌, ◌%◌, ◌<◌, ◌≤◌}
@@ -8,42 +8,54 @@ use native.Mathlib.Omega.{arith}
 use native.Mathlib.Decide.{dec_lt}
 use lib.Dec.{eqb, ltb}
 use lib.ListN.{get_or}
+use Rattle.std.specs.Prelude.{Ok, Err, is_err}
 use borrow.Author.Tests.{eq-eqb, ne_eqb, lt-ltb, le-ltb}
 use Rattle.basics.specs.Counting.{First}
 use Rattle.basics.specs.Numbered.{Conditions, Gives, NoneHolds, Lawful}
-use Rattle.basics.proofs.Bools.{clash, or_left, or_right, Tells, tells_below, tells_not_below, tells_equal, tells_or, tells_not, tells_same}
+use Rattle.basics.proofs.Bools.{clash, Tells, tells_below, tells_not_below, tells_equal, tells_or, tells_not, tells_same}
 use Rattle.basics.proofs.Counting.{first-from}
 use Rattle.basics.proofs.Numbered.{law_none, law_first, law_one, law_after, law_each}
 use Rattle.site.specs.Limits.{most_radios, most_paths}
 use Rattle.site.specs.Map.{A}
-use Rattle.refusals.specs.Refusals.{Call, cell_finding, finding_at, is_bad, bad_cell, first_bad, finding, refuse, passed, ◌or_else◌, no_size, size_verdict, map_verdict, pair_verdict, room_verdict, verdict, number, place_of}
+use Rattle.refusals.specs.Refusals.{Call, Verdict, Finding, cell_finding, finding_at, bad_cell, first_bad, finding, refuse, refusal_of, passed, ◌or_else◌, no_size, size_verdict, map_verdict, pair_verdict, room_verdict, verdict, number, place_of}
 use Rattle.refusals.specs.Conditions.{kinds, of_cell, Fault, no_bit, mirror, FirstFault, FirstIs, size_conditions, cell_conditions, map_conditions, pair_conditions, room_conditions, conditions}
-use Rattle.refusals.specs.declared.Finding.{Finding}
-use Rattle.refusals.specs.declared.Finding.TheVariants.{Sound, Value, Mirror}
-use Rattle.refusals.specs.declared.Verdict.{Verdict}
-use Rattle.refusals.specs.declared.Verdict.TheVariants.{Accepted, Radios, TableLength, CellValue, CellMirror, Links, Ends, Wanted, Log, Lists, Records, PathList}
+use Rattle.refusals.specs.declared.BadCell.TheVariants.{Value, Mirror}
+use Rattle.refusals.specs.declared.Refusal.{Refusal}
+use Rattle.refusals.specs.declared.Refusal.TheVariants.{Radios, TableLength, CellValue, CellMirror, Links, Ends, Wanted, Log, Lists, Records, PathList}
 
 -- ---- one cell
 
 abbrev number_of : Finding → ℕ
 number_of found = number (passed found)
 
--- a finding that is not bad finds nothing, and a bad one has a number
-pub finds_nothing : (found : Finding) → is_bad found ≡ false → found ≡ Sound
-finds_nothing Sound e = refl
-finds_nothing (Value place) e = absurd (true≢false e)
-finds_nothing (Mirror place) e = absurd (true≢false e)
+-- each refusal has a number
+pub some_number : (refusal : Refusal) → number (Err refusal) ≡ 0 → ⊥
+some_number Radios zero = omega arith
+some_number TableLength zero = omega arith
+some_number (CellValue place) zero = omega arith
+some_number (CellMirror place) zero = omega arith
+some_number Links zero = omega arith
+some_number Ends zero = omega arith
+some_number Wanted zero = omega arith
+some_number Log zero = omega arith
+some_number Lists zero = omega arith
+some_number Records zero = omega arith
+some_number PathList zero = omega arith
 
-pub bad_number : (found : Finding) → is_bad found ≡ true → number_of found ≡ 0 → ⊥
-bad_number Sound e z = false≢true e
-bad_number (Value place) e z = omega arith
-bad_number (Mirror place) e z = omega arith
+-- a finding that is not bad finds nothing, and a bad one has a number
+pub finds_nothing : (found : Finding) → is_err found ≡ false → found ≡ Ok tt
+finds_nothing (Ok tt) e = refl
+finds_nothing (Err bad) e = absurd (true≢false e)
+
+pub bad_number : (found : Finding) → is_err found ≡ true → number_of found ≡ 0 → ⊥
+bad_number (Ok sound) e z = false≢true e
+bad_number (Err bad) e z = some_number (refusal_of bad) z
 
 -- and only a bad one has
-bad_told : (found : Finding) → (number_of found ≡ 0 → ⊥) → is_bad found ≡ true
-bad_told found some = go (is_bad found) refl
+bad_told : (found : Finding) → (number_of found ≡ 0 → ⊥) → is_err found ≡ true
+bad_told found some = go (is_err found) refl
   where
-    go : (b : Bool) → is_bad found ≡ b → b ≡ true
+    go : (b : Bool) → is_err found ≡ b → b ≡ true
     go true e = refl
     go false e = absurd (some (ap number_of (finds_nothing found e)))
 
@@ -52,16 +64,16 @@ module _ (table : List ℕ) (n : ℕ) where
   pub kind_law : (place : ℕ) → Lawful number_of (kinds table n place) (finding_at table n place)
   unfolding cell_finding finding_at
   kind_law place =
-      law_first number_of (Value place) _ (λ e. omega arith) (tells_same _ (tells_below 1 (get_or table place 0)) ((λ p. (λ e. omega arith, λ e. omega arith)), (λ p. omega (arith, p.0, p.1))))
-      (law_first number_of (Mirror place) _ (λ e. omega arith) (tells_not _ (tells_equal _ _))
-      (law_none number_of Sound refl))
+      law_first number_of (Err (Value place)) _ (λ e. omega arith) (tells_same _ (tells_below 1 (get_or table place 0)) ((λ p. (λ e. omega arith, λ e. omega arith)), (λ p. omega (arith, p.0, p.1))))
+      (law_first number_of (Err (Mirror place)) _ (λ e. omega arith) (tells_not _ (tells_equal _ _))
+      (law_none number_of (Ok tt) refl))
 
   -- and its place
   fault_place : (place : ℕ) → bad_cell table n place ≡ true → place_of (passed (finding_at table n place)) ≡ place
   unfolding cell_finding finding_at
   fault_place place = go (ltb 1 (get_or table place 0)) (not (eqb (get_or table place 0) (get_or table (place % n * n + place / n) 0)))
     where
-      go : (value other : Bool) → let found = cond value (Value place) (cond other (Mirror place) Sound) in is_bad found ≡ true → place_of (passed found) ≡ place
+      go : (value other : Bool) → let found = cond value (Err (Value place)) (cond other (Err (Mirror place)) (Ok tt)) in is_err found ≡ true → place_of (passed found) ≡ place
       go true other e = refl
       go false true e = refl
       go false false e = absurd (false≢true e)
@@ -112,12 +124,12 @@ module _ (table : List ℕ) (n : ℕ) where
   unfolding finding
   found_there p = rw (lt-ltb _ _ p) refl
 
-  found_nowhere : n * n ≤ first_bad table n → finding table n ≡ Sound
+  found_nowhere : n * n ≤ first_bad table n → finding table n ≡ Ok tt
   unfolding finding
   found_nowhere p = rw (le-ltb _ _ p) refl
 
   -- a finding tells the first cell at fault, by its first kind
-  pub first_told : is_bad (finding table n) ≡ true → FirstIs table n (number_of (finding table n)) (place_of (passed (finding table n)))
+  pub first_told : is_err (finding table n) ≡ true → FirstIs table n (number_of (finding table n)) (place_of (passed (finding table n)))
   first_told bad = go (dec_lt (first_bad table n) (n * n))
     where
       go : Dec (first_bad table n < n * n) → FirstIs table n (number_of (finding table n)) (place_of (passed (finding table n)))
@@ -125,7 +137,7 @@ module _ (table : List ℕ) (n : ℕ) where
           let there : bad_cell table n (first_bad table n) ≡ true = first-bad.found p in
           rw (found_there p, fault_place table n (first_bad table n) there)
           (record { first = first_fault p; kind = ((kind_law table n (first_bad table n)).given _ (bad_number (finding_at table n (first_bad table n)) there)).0 refl })
-      go (no p) = absurd (false≢true (sym (ap is_bad (found_nowhere (omega arith))) ∙ bad))
+      go (no p) = absurd (false≢true (sym (ap is_err (found_nowhere (omega arith))) ∙ bad))
 
   -- and is the only one that does
   pub kind_exactly : (c : ℕ) → (c ≡ 0 → ⊥) → (number_of (finding table n) ≡ c) ↔ ((place : ℕ) × FirstIs table n c place)
@@ -138,11 +150,11 @@ module _ (table : List ℕ) (n : ℕ) where
           ∙ ((kind_law table n (first_bad table n)).given c apart).1 (rw there at is.kind)
 
 -- a table in which the check finds nothing has no fault
-pub sound_table : (table : List ℕ) (n : ℕ) → finding table n ≡ Sound → (place : ℕ) → place < n * n → Fault table n place → ⊥
+pub sound_table : (table : List ℕ) (n : ℕ) → finding table n ≡ Ok tt → (place : ℕ) → place < n * n → Fault table n place → ⊥
 sound_table table n sound place p fault = go (dec_lt (first_bad table n) (n * n))
   where
     go : Dec (first_bad table n < n * n) → ⊥
-    go (yes q) = false≢true (sym (ap is_bad sound) ∙ ap is_bad (found_there table n q) ∙ (first-bad table n).found q)
+    go (yes q) = false≢true (sym (ap is_err sound) ∙ ap is_err (found_there table n q) ∙ (first-bad table n).found q)
     go (no q) = true≢false (sym ((bad-cell table n place).1 fault) ∙ (first-bad table n).before place (omega arith) (omega arith))
 
 -- ---- each part of the list, and the whole
@@ -154,14 +166,11 @@ pub record Exact (table : List ℕ) (n : ℕ) (list : Conditions) (v : Verdict) 
 
 module _ {table : List ℕ} {n : ℕ} where
   -- one refusal that is not on a cell
-  pub one : (v : Verdict) (test : Bool) {P : Type 0} → (eqb (number v) 0 || of_cell (number v)) ≡ false → Tells test P → Exact table n ((number v, P) ∷ []) (refuse test v)
-  one v test {P} other tells = record { law = law_one number v Accepted test some refl tells; cell = go test }
+  pub one : (v : Refusal) (test : Bool) {P : Type 0} → of_cell (number (Err v)) ≡ false → Tells test P → Exact table n ((number (Err v), P) ∷ []) (refuse test v)
+  one v test {P} other tells = record { law = law_one number (Err v) (Ok tt) test (some_number v) refl tells; cell = go test }
     where
-      some : number v ≡ 0 → ⊥
-      some e = clash (or_left _ _ (eq-eqb _ _ e)) other
-
       go : (b : Bool) → of_cell (number (refuse b v)) ≡ true → FirstIs table n (number (refuse b v)) (place_of (refuse b v))
-      go true e = clash (or_right (eqb (number v) 0) _ e) other
+      go true e = clash e other
       go false e = absurd (false≢true e)
 
   infixl 25 ◌then◌
@@ -185,9 +194,9 @@ module _ (table : List ℕ) (n : ℕ) where
 
   -- no other number is told of a table
   no_other : NoneHolds (cell_conditions table n) → (found : Finding) → number_of (finding table n) ≡ number_of found → number_of (finding table n) ≡ 0
-  no_other none Sound e = e
-  no_other none (Value place) e = absurd (none.0 (exactly_3.0 e))
-  no_other none (Mirror place) e = absurd (none.1.0 (exactly_13.0 e))
+  no_other none (Ok sound) e = e
+  no_other none (Err (Value place)) e = absurd (none.0 (exactly_3.0 e))
+  no_other none (Err (Mirror place)) e = absurd (none.1.0 (exactly_13.0 e))
 
   pub cells_exact : Exact table n (cell_conditions table n) (passed (finding table n))
   cells_exact =
@@ -260,15 +269,15 @@ module _ (call : Call) where
 
 -- only a cell has a place
 pub no_place : (v : Verdict) → of_cell (number v) ≡ false → place_of v ≡ 0
-no_place Accepted h = refl
-no_place Radios h = refl
-no_place TableLength h = refl
-no_place (CellValue place) h = absurd (true≢false h)
-no_place (CellMirror place) h = absurd (true≢false h)
-no_place Links h = refl
-no_place Ends h = refl
-no_place Wanted h = refl
-no_place Log h = refl
-no_place Lists h = refl
-no_place Records h = refl
-no_place PathList h = refl
+no_place (Ok accepted) h = refl
+no_place (Err Radios) h = refl
+no_place (Err TableLength) h = refl
+no_place (Err (CellValue place)) h = absurd (true≢false h)
+no_place (Err (CellMirror place)) h = absurd (true≢false h)
+no_place (Err Links) h = refl
+no_place (Err Ends) h = refl
+no_place (Err Wanted) h = refl
+no_place (Err Log) h = refl
+no_place (Err Lists) h = refl
+no_place (Err Records) h = refl
+no_place (Err PathList) h = refl

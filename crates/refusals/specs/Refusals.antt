@@ -1,13 +1,13 @@
 -- "Refusals by number, in this order" of document 01, as document 02 amends them: 1 to 8 and 13 with their places.
-use Rattle.std.specs.Prelude.{Bool, true, false, not, ◌||◌, cond, List, ℕ, ◌+◌, ◌-◌, ◌*◌, ◌/◌, ◌%◌, eqb, ltb, length, get_or}
+use Rattle.std.specs.Prelude.{Bool, not, ◌||◌, cond, List, ℕ, ◌+◌, ◌-◌, ◌*◌, ◌/◌, ◌%◌, eqb, ltb, length, get_or, Result, Ok, Err, is_err}
 use Rattle.basics.specs.Counting.{first_from}
 use Rattle.site.specs.Limits.{most_radios, most_links, most_paths}
 use Rattle.site.specs.Map.{Site, links, A}
 use Rattle.message_log.specs.Bytes.{message_bytes}
-use Rattle.refusals.specs.declared.Finding.{Finding}
-use Rattle.refusals.specs.declared.Finding.TheVariants.{Sound, Value, Mirror}
-use Rattle.refusals.specs.declared.Verdict.{Verdict}
-use Rattle.refusals.specs.declared.Verdict.TheVariants.{Accepted, Radios, TableLength, CellValue, CellMirror, Links, Ends, Wanted, Log, Lists, Records, PathList}
+use Rattle.refusals.specs.declared.BadCell.{BadCell}
+use Rattle.refusals.specs.declared.BadCell.TheVariants.{Value, Mirror}
+use Rattle.refusals.specs.declared.Refusal.{Refusal}
+use Rattle.refusals.specs.declared.Refusal.TheVariants.{Radios, TableLength, CellValue, CellMirror, Links, Ends, Wanted, Log, Lists, Records, PathList}
 
 -- what a caller hands over: the map and its ends, the number of paths wanted, and the lengths of the three lent buffers
 pub record Call : Type 0 where
@@ -20,23 +20,26 @@ pub record Call : Type 0 where
 abbrev pub call_of : ℕ → List ℕ → ℕ → ℕ → ℕ → ℕ → ℕ → ℕ → Call
 call_of n table S T k log paths cut = record { site = record { n = n; table = table; S = S; T = T }; k = k; log_length = log; paths_length = paths; cut_length = cut }
 
+-- what a call is told: accepted, or refused for a reason
+abbrev pub Verdict : Type 0
+Verdict = Result (Unit {0}) Refusal
+
+-- what is found at a cell, and in a table: no fault, or a bad cell
+abbrev pub Finding : Type 0
+Finding = Result (Unit {0}) BadCell
+
 -- ---- 3 and 13: the table's cells
 
 -- the cell at this place is judged by two kinds of fault in this order: it is not 0 or 1, it differs from its mirror cell
 unfoldable pub cell_finding : ℕ → ℕ → ℕ → Finding
-cell_finding place cell mirror = cond (ltb 1 cell) (Value place) (cond (not (eqb cell mirror)) (Mirror place) Sound)
+cell_finding place cell mirror = cond (ltb 1 cell) (Err (Value place)) (cond (not (eqb cell mirror)) (Err (Mirror place)) (Ok tt))
 
 -- the cell at a place of the table; places are counted from 0 in row order
 unfoldable pub finding_at : List ℕ → ℕ → ℕ → Finding
 finding_at table n place = cell_finding place (get_or table place 0) (get_or table (place % n * n + place / n) 0)
 
-abbrev pub is_bad : Finding → Bool
-is_bad Sound = false
-is_bad (Value place) = true
-is_bad (Mirror place) = true
-
 abbrev pub bad_cell : List ℕ → ℕ → ℕ → Bool
-bad_cell table n place = is_bad (finding_at table n place)
+bad_cell table n place = is_err (finding_at table n place)
 
 -- the place of the first bad cell in row order; n·n where there is none
 unfoldable pub first_bad : List ℕ → ℕ → ℕ
@@ -46,7 +49,7 @@ first_bad table n = first_from (bad_cell table n) 0 (n * n)
 unfoldable pub finding : List ℕ → ℕ → Finding
 finding table n =
     let place = first_bad table n in
-    cond (ltb place (n * n)) (finding_at table n place) Sound
+    cond (ltb place (n * n)) (finding_at table n place) (Ok tt)
 
 -- ---- 7 and 8: how much a run may need
 
@@ -64,18 +67,18 @@ paths_need site k = site.n - 2 + 3 * k
 
 -- the documents' number for each verdict, 0 being none, and its place: only a cell has one
 abbrev pub numbered : Verdict → ℕ × ℕ
-numbered Accepted = (0, 0)
-numbered Radios = (1, 0)
-numbered TableLength = (2, 0)
-numbered (CellValue place) = (3, place)
-numbered (CellMirror place) = (13, place)
-numbered Links = (4, 0)
-numbered Ends = (5, 0)
-numbered Wanted = (6, 0)
-numbered Log = (7, 0)
-numbered Lists = (8, 0)
-numbered Records = (20, 0)
-numbered PathList = (21, 0)
+numbered (Ok accepted) = (0, 0)
+numbered (Err Radios) = (1, 0)
+numbered (Err TableLength) = (2, 0)
+numbered (Err (CellValue place)) = (3, place)
+numbered (Err (CellMirror place)) = (13, place)
+numbered (Err Links) = (4, 0)
+numbered (Err Ends) = (5, 0)
+numbered (Err Wanted) = (6, 0)
+numbered (Err Log) = (7, 0)
+numbered (Err Lists) = (8, 0)
+numbered (Err Records) = (20, 0)
+numbered (Err PathList) = (21, 0)
 
 abbrev pub number : Verdict → ℕ
 number v = (numbered v).0
@@ -90,14 +93,18 @@ abbrev pub if_accepted {ℓ} : {X : Type ℓ} → Verdict → X → X → X
 if_accepted verdict own other = cond (eqb (number verdict) 0) own other
 
 -- refused by v if the test holds
-abbrev pub refuse : Bool → Verdict → Verdict
-refuse test v = cond test v Accepted
+abbrev pub refuse : Bool → Refusal → Verdict
+refuse test v = cond test (Err v) (Ok tt)
+
+-- a call whose table has a bad cell is refused for it
+abbrev pub refusal_of : BadCell → Refusal
+refusal_of (Value place) = CellValue place
+refusal_of (Mirror place) = CellMirror place
 
 -- a finding on the table is passed on
 abbrev pub passed : Finding → Verdict
-passed Sound = Accepted
-passed (Value place) = CellValue place
-passed (Mirror place) = CellMirror place
+passed (Ok sound) = Ok tt
+passed (Err bad) = Err (refusal_of bad)
 
 infixl 25 ◌or_else◌
 -- the first of two verdicts that does not accept

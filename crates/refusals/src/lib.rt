@@ -1,25 +1,23 @@
-// The words that the check of a call answers with, and their numbers. The definitions are in specs/.
+// What the check of a call answers against it, and the numbers of these refusals. The definitions are in specs/.
 #![tactic(auto)]
 
-ghost use Rattle.std.specs.Prelude.{◌≡◌};
-ghost use Rattle.refusals.specs.Refusals.{is_bad, number, place_of, passed, too_few, too_many};
+ghost use Rattle.std.specs.Prelude.{◌≡◌, Err};
+ghost use Rattle.refusals.specs.Refusals.{number, place_of, refusal_of, too_few, too_many};
 
 // A kit has at least so many radios.
 const FEWEST_RADIOS: usize = 2;
 
-// What the check of the table finds: no fault, or what is wrong with the first bad cell in row order, and its place. It is not
-// 0 or 1, or it differs from its mirror cell.
-#[derive(Clone, Copy)]
-pub enum Finding {
-    Sound,
+// What is wrong with a cell of the table, and its place: it is not 0 or 1, or it differs from its mirror cell.
+#[derive(Clone, Copy, Debug, PartialEq, Eq)]
+pub enum BadCell {
     Value(usize),
     Mirror(usize),
 }
 
-// What a call is told before any token is sent: accepted, or the first reason against it, in the order of the documents.
-#[derive(Clone, Copy)]
-pub enum Verdict {
-    Accepted,
+// What a call is told before any token is sent, where it is not accepted: the first reason against it, in the order of the
+// documents.
+#[derive(Clone, Copy, Debug, PartialEq, Eq)]
+pub enum Refusal {
     Radios,
     TableLength,
     CellValue(usize),
@@ -33,65 +31,46 @@ pub enum Verdict {
     PathList,
 }
 
-// The documents' number of a verdict.
-pub fn number_of(verdict: Verdict) -> usize
-    ensures { result ≡ number verdict }
-{
-    match verdict {
-        Verdict::Accepted => 0,
-        Verdict::Radios => 1,
-        Verdict::TableLength => 2,
-        Verdict::CellValue(_) => 3,
-        Verdict::CellMirror(_) => 13,
-        Verdict::Links => 4,
-        Verdict::Ends => 5,
-        Verdict::Wanted => 6,
-        Verdict::Log => 7,
-        Verdict::Lists => 8,
-        Verdict::Records => 20,
-        Verdict::PathList => 21,
+impl Refusal {
+    // The documents' number. It is no discriminant: a refusal for a cell has its place besides.
+    pub fn number(self) -> usize
+        ensures { result ≡ number (Err self) }
+    {
+        match self {
+            Refusal::Radios => 1,
+            Refusal::TableLength => 2,
+            Refusal::CellValue(_) => 3,
+            Refusal::CellMirror(_) => 13,
+            Refusal::Links => 4,
+            Refusal::Ends => 5,
+            Refusal::Wanted => 6,
+            Refusal::Log => 7,
+            Refusal::Lists => 8,
+            Refusal::Records => 20,
+            Refusal::PathList => 21,
+        }
+    }
+
+    // Its place: only a bad cell has one.
+    pub fn place(self) -> usize
+        ensures { result ≡ place_of (Err self) }
+    {
+        match self {
+            Refusal::CellValue(place) | Refusal::CellMirror(place) => place,
+            _ => 0,
+        }
     }
 }
 
-// Its place: only a bad cell has one.
-pub fn place_of(verdict: Verdict) -> usize
-    ensures { result ≡ place_of verdict }
-{
-    match verdict {
-        Verdict::Accepted => 0,
-        Verdict::Radios => 0,
-        Verdict::TableLength => 0,
-        Verdict::CellValue(place) => place,
-        Verdict::CellMirror(place) => place,
-        Verdict::Links => 0,
-        Verdict::Ends => 0,
-        Verdict::Wanted => 0,
-        Verdict::Log => 0,
-        Verdict::Lists => 0,
-        Verdict::Records => 0,
-        Verdict::PathList => 0,
-    }
-}
+// A call whose table has a bad cell is refused for it.
+impl From<BadCell> for Refusal {
+    ghost from_gives = { λ bad refusal. refusal ≡ refusal_of bad };
 
-// Is a fault found?
-pub fn is_bad(finding: Finding) -> bool
-    ensures { result ≡ is_bad finding }
-{
-    match finding {
-        Finding::Sound => false,
-        Finding::Value(_) => true,
-        Finding::Mirror(_) => true,
-    }
-}
-
-// A finding on the table is passed on.
-pub fn passed_on(finding: Finding) -> Verdict
-    ensures { result ≡ passed finding }
-{
-    match finding {
-        Finding::Sound => Verdict::Accepted,
-        Finding::Value(place) => Verdict::CellValue(place),
-        Finding::Mirror(place) => Verdict::CellMirror(place),
+    fn from(bad: BadCell) -> Refusal {
+        match bad {
+            BadCell::Value(place) => Refusal::CellValue(place),
+            BadCell::Mirror(place) => Refusal::CellMirror(place),
+        }
     }
 }
 

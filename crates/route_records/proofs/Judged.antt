@@ -15,7 +15,7 @@ use Rattle.path_lists.specs.Judge.{SoundLists, is_sound}
 use Rattle.path_lists.proofs.Judging.{sound_tells}
 use Rattle.path_lists.proofs.Read.{read_held, held_read}
 use Rattle.refusals.specs.Refusals.{no_size, refuse, ◌or_else◌, number}
-use Rattle.refusals.specs.declared.Verdict.TheVariants.{Radios, Records, PathList}
+use Rattle.refusals.specs.declared.Refusal.TheVariants.{Radios, Records, PathList}
 use Rattle.refusals.proofs.Exactly.{size_exact, one, ◌then◌}
 use Rattle.refusals.proofs.Accepted.{size_fits}
 use Rattle.route_records.specs.Records.{routes_verdict, routes_conditions}

@@ -1,6 +1,6 @@
 pub mod Judged
 pub mod Places
 pub mod Told
-pub mod Fields
+pub mod Laid
 pub mod Filled
 pub mod Promised

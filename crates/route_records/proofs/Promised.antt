@@ -1,27 +1,29 @@
 -- What the call for route records leaves keeps its promise. Assumes nothing.
 use mathlib.Core.Path.{◌≡◌, refl, sym, ap, ◌∙◌}
-use mathlib.Core.Bool.{Bool, true, false, cond}
 use mathlib.Core.List.{List, [], ◌∷◌, ◌++◌}
-use Prim.Native.Nat.{ℕ, zero, suc, ◌-◌, ◌*◌, ◌≤◌, ◌<◌}
+use Prim.Native.Nat.{ℕ, zero, suc, ◌-◌, ◌≤◌, ◌<◌}
 use native.Mathlib.Omega.{arith}
 use native.Mathlib.Decide.{ℕ_discrete}
-use lib.Dec.{eqb}
 use lib.ListN.{length, get_or, take, drop, length-append, get_or-append}
-use lib.Seq.{get_or-append_seam, get_or-append-add, get_or-drop}
-use borrow.Author.Tests.{eq-eqb, ne_eqb, eqb-true}
+use lib.Seq.{take-suc, take-length, get_or-append_seam, get_or-append-add, get_or-drop}
+use borrow.Author.Tests.{eq-eqb, ne_eqb}
 use Rattle.basics.proofs.Lists.{all_follow}
 use Rattle.site.specs.Limits.{most_radios}
 use Rattle.path_lists.specs.Reading.{paths_read, list_end}
-use Rattle.path_lists.specs.Judge.{RadioList}
+use Rattle.path_lists.specs.Judge.{RadioList, SoundLists}
 use Rattle.path_lists.proofs.Judging.{sound_tells}
 use Rattle.path_lists.proofs.Read.{same-front}
-use Rattle.refusals.specs.Refusals.{number}
+use Rattle.refusals.specs.Refusals.{Verdict, number}
+use Rattle.refusals.specs.declared.Refusal.{Refusal}
+use Rattle.refusals.proofs.Exactly.{some_number}
+use Rattle.std.specs.Prelude.{Ok, Err}
 use Rattle.route_records.specs.declared.Role.TheVariants.{OffPaths}
 use Rattle.route_records.specs.declared.Route.{Route}
 use Rattle.route_records.specs.Records.{alone, record_in, record_from, record_of, records_of, RoutesCall, routes_verdict, verdict_of, records_left}
-use Rattle.route_records.specs.Filling.{Tellable, to_fill, record_fields, most_fields, route_at, routes_in, Laid}
+use Rattle.route_records.specs.Filling.{Tellable}
 use Rattle.route_records.specs.Promise.{reading, RoutesPromise}
-use Rattle.route_records.proofs.Judged.{accepted, routes_exact}
+use Rattle.route_records.proofs.Laid.{PathsLaid, all_laid}
+use Rattle.route_records.proofs.Judged.{Accepted, accepted, routes_exact}
 
 -- ---- the first n records
 
@@ -39,6 +41,21 @@ record_at_v paths (suc n) v other below = go (ℕ_discrete v n) (λ l. record_at
     go (yes e) earlier = ap (λ (i : ℕ). get_or (records_of paths n ++ (record_of paths n ∷ [])) i other) (e ∙ sym (length_records paths n)) ∙ get_or-append_seam (records_of paths n) (record_of paths n) [] other ∙ ap (record_of paths) (sym e)
     go (no ne) earlier = get_or-append (records_of paths n) (record_of paths n ∷ []) other v (omega (arith, ne, length_records paths n)) ∙ earlier (omega (arith, ne))
 
+-- records that are each radio's, as far as they go
+pub their_records : (paths : List (List ℕ)) (records : List Route) (n : ℕ) → n ≤ length records → ((v : ℕ) → v < n → record_in records v ≡ record_of paths v) → take n records ≡ records_of paths n
+unfolding records_of
+their_records paths records zero few are = refl
+their_records paths records (suc n) few are = rw (take-suc records n (alone OffPaths) (omega arith), their_records paths records n (omega arith) (λ v l. are v (omega arith)), are n (omega arith)) refl
+
+-- of more records the first n
+pub fewer_records : (paths : List (List ℕ)) (n m : ℕ) → n ≤ m → take n (records_of paths m) ≡ records_of paths n
+fewer_records paths n m few = their_records paths (records_of paths m) n (omega (arith, length_records paths m)) (λ v l. record_at_v paths m v (alone OffPaths) (omega arith))
+
+-- where all paths are laid, they are all radios'
+pub all_records : {paths : List (List ℕ)} {i : ℕ} {records : List Route} → i ≡ length paths → PathsLaid paths i records → records ≡ records_of paths most_radios
+all_records {paths} {i} {records} all laid =
+    sym (take-length records) ∙ ap (λ (n : ℕ). take n records) laid.long ∙ their_records paths records most_radios (omega (arith, laid.long)) (λ v l. all_laid all laid v)
+
 module _ (paths : List (List ℕ)) (n : ℕ) (old : List Route) where
   first_records : (v : ℕ) (other : Route) → v < n → get_or (records_of paths n ++ drop n old) v other ≡ record_of paths v
   first_records v other below = get_or-append (records_of paths n) (drop n old) other v (omega (arith, length_records paths n)) ∙ record_at_v paths n v other below
@@ -48,100 +65,91 @@ module _ (paths : List (List ℕ)) (n : ℕ) (old : List Route) where
       ap (λ (i : ℕ). get_or (records_of paths n ++ drop n old) i other) (omega (arith, length_records paths n))
       ∙ get_or-append-add (records_of paths n) (drop n old) (v - n) other ∙ get_or-drop n old (v - n) other ∙ ap (λ (i : ℕ). get_or old i other) (omega arith)
 
+-- ---- what the call leaves
+
+abbrev paths_of : RoutesCall → List (List ℕ)
+paths_of call = paths_read call.count call.list
+
+pub left_accepted : (call : RoutesCall) → number (verdict_of call) ≡ 0 → records_left call ≡ records_of (paths_of call) call.n ++ drop call.n call.records
+unfolding records_left
+left_accepted call none = rw (eq-eqb _ 0 none) refl
+
+pub left_refused : (call : RoutesCall) → (number (verdict_of call) ≡ 0 → ⊥) → records_left call ≡ call.records
+unfolding records_left
+left_refused call some = rw (ne_eqb _ 0 some) refl
+
+-- a list that agrees up to the end of the last path is read alike
+alike : (call : RoutesCall) (other : List ℕ) → take (list_end call.count call.list) other ≡ take (list_end call.count call.list) call.list
+    → (number (verdict_of call) ≡ number (verdict_of (reading call other))) × (records_left call ≡ records_left (reading call other))
+unfolding routes_verdict records_left
+alike call other agree =
+    let same = same-front call.count call.list other agree in
+    (rw (same.0, same.1) refl, rw (same.0, same.1) refl)
+
+for_each : (call : RoutesCall) → number (verdict_of call) ≡ 0 → (v : ℕ) → v < call.n → record_in (records_left call) v ≡ record_of (paths_of call) v
+for_each call none v below = rw (left_accepted call none) (first_records (paths_of call) call.n call.records v (alone OffPaths) below)
+
+empty : (count : ℕ) (list : List ℕ) (v : ℕ) → count ≡ 0 → record_of (paths_read count list) v ≡ alone OffPaths
+unfolding paths_read record_from
+empty count list v zeros = rw zeros refl
+
+past_n : (call : RoutesCall) (v : ℕ) → call.n ≤ v → record_in (records_left call) v ≡ record_in call.records v
+past_n call v past = go (ℕ_discrete (number (verdict_of call)) 0)
+  where
+    go : Dec (number (verdict_of call) ≡ 0) → record_in (records_left call) v ≡ record_in call.records v
+    go (yes none) = rw (left_accepted call none) (later_records (paths_of call) call.n call.records v (alone OffPaths) past)
+    go (no some) = rw (left_refused call some) refl
+
+promise : (call : RoutesCall) → RoutesPromise call (number (verdict_of call)) (records_left call)
+promise call =
+    record {
+      refusal_is = refl;
+      records_are = refl;
+      lawful = routes_exact call.n (length call.records) call.count call.list;
+      for_each = for_each call;
+      no-paths = λ none zeros v below. for_each call none v below ∙ empty call.count call.list v zeros;
+      past_n = past_n call;
+      unchanged = left_refused call;
+      past_unread = alike call;
+    }
+
+pub promised : (call : RoutesCall) {refusal : ℕ} {records : List Route} → refusal ≡ number (verdict_of call) → records ≡ records_left call → RoutesPromise call refusal records
+promised call told left = rw (told, left) (promise call)
+
 -- ---- the call
 
--- a list that is not refused can be told
-pub tellable : (n records count refusal : ℕ) (list : List ℕ) → refusal ≡ number (routes_verdict n records count list) → refusal ≡ 0 → Tellable count list
-tellable n records count refusal list told none =
-    let a = accepted n records count list (sym told ∙ none) in
-    let sound = (sound_tells n (paths_read count list)).0 a.sound in
-    record { few = a.few_paths; whole = a.whole; sound = record { S = sound.S; T = sound.T; each = all_follow (RadioList n sound.S sound.T) (RadioList most_radios sound.S sound.T) (widened a.few_radios) (paths_read count list) sound.each; two = sound.two } }
+pub promised_refused : (call : RoutesCall) {verdict : Verdict} {refusal : Refusal} {told : ℕ} → verdict ≡ verdict_of call → verdict ≡ Err refusal → told ≡ number (Err refusal) → RoutesPromise call told call.records
+promised_refused call {verdict} {refusal} judged is told =
+    let same : number (verdict_of call) ≡ number (Err refusal) = ap number (sym judged ∙ is) in
+    promised call (told ∙ sym same) (sym (left_refused call (λ e. some_number refusal (sym same ∙ e))))
+
+-- a call that is accepted is in order
+pub in_order : {n records count : ℕ} {list : List ℕ} {verdict : Verdict} {u : Unit {0}} → verdict ≡ routes_verdict n records count list → verdict ≡ Ok u → Accepted n records count list
+in_order {n} {records} {count} {list} judged is = accepted n records count list (ap number (sym judged ∙ is))
+
+-- its list can be told
+pub tellable : {n records count : ℕ} {list : List ℕ} → Accepted n records count list → Tellable count list
+tellable {n} {records} {count} {list} good = record {
+  few = good.few_paths;
+  whole = good.whole;
+  sound = record { S = sound.S; T = sound.T; each = all_follow (RadioList n sound.S sound.T) (RadioList most_radios sound.S sound.T) widened (paths_read count list) sound.each; two = sound.two };
+}
   where
-    widened : {S T : ℕ} → n ≤ most_radios → (path : List ℕ) → RadioList n S T path → RadioList most_radios S T path
-    widened most path radios =
-        record { two_or_more = radios.two_or_more; different = radios.different; below = all_follow (λ v. v < n) (λ v. v < most_radios) (λ v l. omega arith) path radios.below; first = radios.first; last = radios.last }
+    sound : SoundLists n (paths_read count list)
+    sound = (sound_tells n (paths_read count list)).0 good.sound
 
--- there is room for the records that are set, and a field for each
-pub fits : (n records count refusal m : ℕ) (list : List ℕ) → refusal ≡ number (routes_verdict n records count list) → m ≡ to_fill refusal n → (m ≤ records) × (record_fields * m ≤ most_fields)
-fits n records count refusal m list told is = go (eqb refusal 0) refl is
-  where
-    go : (b : Bool) → eqb refusal 0 ≡ b → m ≡ cond b n 0 → (m ≤ records) × (record_fields * m ≤ most_fields)
-    go true e s =
-        let a = accepted n records count list (sym told ∙ eqb-true _ _ e) in
-        (omega (arith, a.room), omega (arith, a.few_radios))
-    go false e s = (omega arith, omega arith)
+    widened : (path : List ℕ) → RadioList n sound.S sound.T path → RadioList most_radios sound.S sound.T path
+    widened path radios =
+        record { two_or_more = radios.two_or_more; different = radios.different; below = all_follow (λ v. v < n) (λ v. v < most_radios) (λ v l. omega (arith, good.few_radios)) path radios.below; first = radios.first; last = radios.last }
 
-module _ (call : RoutesCall) (refusal m : ℕ) (records : List Route) (told : refusal ≡ number (verdict_of call)) (is : m ≡ to_fill refusal call.n)
-    (set : records ≡ records_of (paths_read call.count call.list) m ++ drop m call.records) where
-  abbrev paths : List (List ℕ)
-  paths = paths_read call.count call.list
+-- there are records for its radios
+pub enough : {n records count : ℕ} {list : List ℕ} (paths : List (List ℕ)) {all : List Route} → Accepted n records count list → all ≡ records_of paths most_radios → n ≤ length all
+enough paths good made = omega (arith, good.few_radios, ap length made, length_records paths most_radios)
 
-  taken : refusal ≡ 0 → records ≡ records_of paths call.n ++ drop call.n call.records
-  taken none =
-      let all : m ≡ call.n = rw (eq-eqb refusal 0 none) at is in
-      rw (← all) set
-
-  unchanged : (refusal ≡ 0 → ⊥) → records ≡ call.records
-  unfolding records_of
-  unchanged some =
-      let none : m ≡ 0 = rw (ne_eqb refusal 0 some) at is in
-      rw none at set
-
-  left : records ≡ records_left call
-  unfolding records_left
-  left = go (ℕ_discrete refusal 0)
-    where
-      go : Dec (refusal ≡ 0) → records ≡ cond (eqb (number (verdict_of call)) 0) (records_of paths call.n ++ drop call.n call.records) call.records
-      go (yes e) = rw (← told, eq-eqb refusal 0 e) (taken e)
-      go (no ne) = rw (← told, ne_eqb refusal 0 ne) (unchanged ne)
-
-  -- a list that agrees up to the end of the last path is read alike
-  alike : (other : List ℕ) → take (list_end call.count call.list) other ≡ take (list_end call.count call.list) call.list
-      → (refusal ≡ number (verdict_of (reading call other))) × (records ≡ records_left (reading call other))
-  unfolding routes_verdict records_left
-  alike other agree =
-      let same = same-front call.count call.list other agree in
-      (rw (same.0, same.1) told, rw (same.0, same.1) left)
-
-  empty : refusal ≡ 0 → (v : ℕ) → v < call.n → call.count ≡ 0 → record_in records v ≡ alone OffPaths
-  unfolding paths_read record_from
-  empty none v below zeros =
-      let is : record_in records v ≡ record_of paths v = rw (taken none) (first_records paths call.n call.records v (alone OffPaths) below) in
-      rw zeros at is
-
-  keeps : RoutesPromise call refusal records
-  keeps =
-      record {
-        refusal_is = told;
-        records_are = left;
-        lawful = routes_exact call.n (length call.records) call.count call.list;
-        for_each = λ none v below. rw (taken none) (first_records paths call.n call.records v (alone OffPaths) below);
-        no-paths = λ none zeros v below. empty none v below zeros;
-        past_n = λ v past. go (ℕ_discrete refusal 0) v past;
-        unchanged = unchanged;
-        past_unread = alike;
-      }
-    where
-      go : Dec (refusal ≡ 0) → (v : ℕ) → call.n ≤ v → record_in records v ≡ record_in call.records v
-      go (yes e) v past = rw (taken e) (later_records paths call.n call.records v (alone OffPaths) past)
-      go (no ne) v past = ap (λ (list : List Route). record_in list v) (unchanged ne)
-
--- what is read off the fields are the records of the paths
-read_off : (fields : List ℕ) (paths : List (List ℕ)) (n : ℕ) → n ≤ most_radios → ((v : ℕ) → v < most_radios → route_at fields v ≡ record_of paths v) → routes_in fields n ≡ records_of paths n
-unfolding routes_in records_of
-read_off fields paths zero few told = refl
-read_off fields paths (suc n) few told = rw (read_off fields paths n (omega arith) told, told n (omega arith)) refl
-
-pub promised : (call : RoutesCall) (refusal m : ℕ) (fields : List ℕ) (records : List Route) → refusal ≡ number (verdict_of call) → m ≡ to_fill refusal call.n → Laid refusal call.count call.list fields
-    → records ≡ routes_in fields m ++ drop m call.records → RoutesPromise call refusal records
-unfolding routes_in records_of
-promised call refusal m fields records told is laid set = go (ℕ_discrete refusal 0)
-  where
-    go : Dec (refusal ≡ 0) → RoutesPromise call refusal records
-    go (yes e) =
-        let few = (accepted call.n (length call.records) call.count call.list (sym told ∙ e)).few_radios in
-        let all : m ≡ call.n = rw (eq-eqb refusal 0 e) at is in
-        keeps call refusal m records told is (rw (sym (read_off fields (paths_read call.count call.list) m (omega arith) (laid.told e))) set)
-    go (no ne) =
-        let none : m ≡ 0 = rw (ne_eqb refusal 0 ne) at is in
-        keeps call refusal m records told is (rw none (rw none at set))
+-- and its records are set
+pub promised_accepted : (call : RoutesCall) {verdict : Verdict} {u : Unit {0}} {all after : List Route} → verdict ≡ verdict_of call → verdict ≡ Ok u → all ≡ records_of (paths_of call) most_radios
+    → after ≡ take call.n all ++ drop (length (take call.n all)) call.records → RoutesPromise call 0 after
+promised_accepted call {verdict} {u} {all} judged is made set =
+    let none : number (verdict_of call) ≡ 0 = ap number (sym judged ∙ is) in
+    let first : take call.n all ≡ records_of (paths_of call) call.n = ap (take call.n) made ∙ fewer_records (paths_of call) call.n most_radios (in_order judged is).few_radios in
+    promised call (sym none) (set ∙ rw (first, length_records (paths_of call) call.n) (sym (left_accepted call none)))

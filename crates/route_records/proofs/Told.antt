@@ -27,15 +27,15 @@ use Rattle.route_records.proofs.Places.{among-at, one_place, at_place, place_of}
 -- ---- the record at a place of a path
 
 module _ (number : ℕ) (path : List ℕ) where
-  at_source : record_at number path 0 ≡ alone Source
+  pub at_source : record_at number path 0 ≡ alone Source
   unfolding record_at
   at_source = refl
 
-  at_sink : (i : ℕ) → (i ≡ 0 → ⊥) → i + 1 ≡ length path → record_at number path i ≡ alone Sink
+  pub at_sink : (i : ℕ) → (i ≡ 0 → ⊥) → i + 1 ≡ length path → record_at number path i ≡ alone Sink
   unfolding record_at
   at_sink i some last = rw (ne_eqb i 0 some, eq-eqb (i + 1) (length path) last) refl
 
-  at_inner : (i : ℕ) → (i ≡ 0 → ⊥) → (i + 1 ≡ length path → ⊥) → record_at number path i ≡ record { role = 1; path = number; before = get_or path (i - 1) 0; after = get_or path (i + 1) 0 }
+  pub at_inner : (i : ℕ) → (i ≡ 0 → ⊥) → (i + 1 ≡ length path → ⊥) → record_at number path i ≡ record { role = 1; path = number; before = get_or path (i - 1) 0; after = get_or path (i + 1) 0 }
   unfolding record_at
   at_inner i some more = rw (ne_eqb i 0 some, ne_eqb (i + 1) (length path) more) refl
 

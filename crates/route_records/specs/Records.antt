@@ -6,10 +6,9 @@ use Rattle.site.specs.Limits.{most_paths}
 use Rattle.path_lists.specs.Bytes.{Holds}
 use Rattle.path_lists.specs.Reading.{readable, paths_read}
 use Rattle.path_lists.specs.Judge.{SoundLists, is_sound}
-use Rattle.refusals.specs.Refusals.{size_verdict, refuse, ◌or_else◌, number, if_accepted}
+use Rattle.refusals.specs.Refusals.{Verdict, size_verdict, refuse, ◌or_else◌, number, if_accepted}
 use Rattle.refusals.specs.Conditions.{size_conditions}
-use Rattle.refusals.specs.declared.Verdict.{Verdict}
-use Rattle.refusals.specs.declared.Verdict.TheVariants.{Records, PathList}
+use Rattle.refusals.specs.declared.Refusal.TheVariants.{Records, PathList}
 use Rattle.route_records.specs.declared.Role.{Role}
 use Rattle.route_records.specs.declared.Role.TheVariants.{OffPaths, OnPath, Source, Sink}
 use Rattle.route_records.specs.declared.Route.{Route}

@@ -19,6 +19,7 @@ use Rattle.machine.specs.declared.Task.{Task}
 use Rattle.machine.specs.declared.Stage.{Stage}
 use Rattle.machine.specs.declared.Stage.TheVariants.{Searching, Declining, Granting, Won, Carrying}
 use Rattle.machine.specs.declared.Machine.{Machine}
+use Rattle.machine.specs.declared.Board.{Board}
 use Rattle.machine.specs.declared.Stepped.{Stepped}
 use Rattle.machine.specs.View.{entered_of, is_won, notes_in, state_in, state_of, next_of}
 use Rattle.machine.specs.Step.{Follows, Steps}
@@ -45,7 +46,7 @@ run_sends plan budget state message next e = rw e
 -- ---- how far the run has come
 
 -- nothing is sent yet
-pub partly_none : (task : Task) (budget : ℕ) (links : List ℕ) (begin : Beginning) → Partly task budget links begin begin.log begin.machine begin.rows begin.entered begin.halves 0
+pub partly_none : (task : Task) (budget : ℕ) (links : List ℕ) (begin : Beginning) → Partly task budget links begin begin.log begin.machine begin.board 0
 unfolding log_bytes
 partly_none task budget links begin = record {
   log = [];
@@ -64,31 +65,31 @@ notes-in Won half other notes waiting = refl
 notes-in Carrying half other notes waiting = refl
 
 -- a machine whose state is not won is at no won stage
-pub not_won : (site : Site) (place : ℕ) (machine : Machine) (rows entered halves : List ℕ) → ((notes : Notes) → state_of site place machine rows entered halves ≡ won notes → ⊥) → is_won machine.stage ≡ false
-not_won site place machine rows entered halves other = go machine.stage refl
+pub not_won : (site : Site) (place : ℕ) (machine : Machine) (board : Board) → ((notes : Notes) → state_of site place machine board ≡ won notes → ⊥) → is_won machine.stage ≡ false
+not_won site place machine board other = go machine.stage refl
   where
     go : (stage : Stage) → machine.stage ≡ stage → is_won stage ≡ false
     go Searching e = refl
     go Declining e = refl
     go Granting e = refl
-    go Won e = absurd (other _ (in_stage site place machine rows entered halves Won e))
+    go Won e = absurd (other _ (in_stage site place machine board Won e))
     go Carrying e = refl
 
-module _ {task : Task} {budget : ℕ} {links : List ℕ} {begin : Beginning} {bytes : List ℕ} {machine : Machine} {rows entered halves : List ℕ} {sent : ℕ}
-    (partly : Partly task budget links begin bytes machine rows entered halves sent) (room : RoomFor budget begin.log) where
+module _ {task : Task} {budget : ℕ} {links : List ℕ} {begin : Beginning} {bytes : List ℕ} {machine : Machine} {board : Board} {sent : ℕ}
+    (partly : Partly task budget links begin bytes machine board sent) (room : RoomFor budget begin.log) where
   abbrev StateOf : (plan : Plan) → Begun plan task links begin → State
-  StateOf plan begun = state_of plan.site (partly.way plan begun).place machine rows entered halves
+  StateOf plan begun = state_of plan.site (partly.way plan begun).place machine board
 
   -- the log keeps its length
   pub partly_length : length bytes ≡ length begin.log
   partly_length = filled_length partly.log begin.log bytes (omega (arith, partly.number, partly.within)) partly.filled
 
-  module _ (stepped : Stepped) (rows' entered' halves' : List ℕ) (steps : Steps task machine links rows entered halves stepped rows' entered' halves') where
-    pub follows : (plan : Plan) (begun : Begun plan task links begin) → Follows plan (StateOf plan begun) stepped rows' entered' halves'
+  module _ (stepped : Stepped) (board' : Board) (steps : Steps task machine links board stepped board') where
+    pub follows : (plan : Plan) (begun : Begun plan task links begin) → Follows plan (StateOf plan begun) stepped board'
     follows plan begun = let way = partly.way plan begun in steps plan way.place way.ready
 
     abbrev NextState : (plan : Plan) → Begun plan task links begin → State
-    NextState plan begun = state_of plan.site (follows plan begun).gives.place stepped.machine rows' entered' halves'
+    NextState plan begun = state_of plan.site (follows plan begun).gives.place stepped.machine board'
 
     pub step_sends : (message : Message) → stepped.answer ≡ Sent message → (plan : Plan) (begun : Begun plan task links begin) → inner_step plan (StateOf plan begun) ≡ sends message (NextState plan begun)
     step_sends message e plan begun = (follows plan begun).gives.answers ∙ ap (λ (answer : Answer). next_of answer (NextState plan begun)) e
@@ -119,7 +120,7 @@ module _ {task : Task} {budget : ℕ} {links : List ℕ} {begin : Beginning} {by
 
     -- one message more is sent and written
     pub partly_more : (message : Message) (bytes' : List ℕ) → sent < budget → stepped.answer ≡ Sent message → Appends sent (record { message = message; round = stepped.machine.round }) bytes bytes'
-        → Partly task budget links begin bytes' stepped.machine rows' entered' halves' (sent + 1)
+        → Partly task budget links begin bytes' stepped.machine board' (sent + 1)
     partly_more message bytes' p e appends = record {
       log = partly.log ++ (entry ∷ []);
       number = omega (arith, length-append partly.log (entry ∷ []), partly.number);
@@ -141,11 +142,11 @@ module _ {task : Task} {budget : ℕ} {links : List ℕ} {begin : Beginning} {by
         left = omega arith
 
   -- the run goes no further: what is sent is the whole of it, and the machine has its numbers
-  pub machine_leaves : (after : List ℕ) (plan : Plan) (begun : Begun plan task links begin) → (((notes : Notes) → StateOf plan begun ≡ won notes → ⊥) → entered_of after ≡ entered_of entered)
+  pub machine_leaves : (after : List ℕ) (plan : Plan) (begun : Begun plan task links begin) → (((notes : Notes) → StateOf plan begun ≡ won notes → ⊥) → entered_of after ≡ entered_of board.entered)
       → run_from plan (budget - sent) (StateOf plan begun) ≡ record { log = []; last = StateOf plan begun }
       → Leaves (whole_run plan budget begin) (record { rounds = machine.round; found = machine.found; messages = sent }) after begin.log bytes
   machine_leaves after plan begun last e =
-      let same : notes_of (StateOf plan begun) ≡ notes_in plan.site machine rows entered = notes-in machine.stage _ _ _ _ in
+      let same : notes_of (StateOf plan begun) ≡ notes_in plan.site machine board = notes-in machine.stage _ _ _ _ in
       let whole : whole_run plan budget begin ≡ record { log = partly.log; last = StateOf plan begun } = (partly.way plan begun).so_far ∙ rw (e, append-nil) in
       rw whole
       (record {

@@ -10,8 +10,9 @@ ghost use Rattle.machine.specs.Step.{Ready};
 ghost use Rattle.running.specs.Progress.{Onward};
 ghost use Rattle.running.specs.Run.{Asks, Leaves, Fresh, Runs};
 
-use machine::{Machine, Stage, Task};
-use tokens::{Answer, Kind};
+use machine::{Board, Machine, Stage, Task};
+use radios::Radios;
+use tokens::{Answer, Kind, Message};
 
 // What a run came to: the rounds started, the paths found, and the messages sent.
 #[derive(Clone, Copy)]
@@ -24,7 +25,7 @@ pub struct Ran {
 // What the half on top has left once it has asked in vain, and the messages sent.
 #[derive(Clone, Copy)]
 struct Vain {
-    left: u64,
+    left: Radios,
     sent: usize,
 }
 
@@ -32,34 +33,32 @@ struct Vain {
 
 // An out half on top asks those next in its order that were entered before: each PDT gets its PDT_B at once. These are inner
 // steps of the rules, two at a time, sent without going through the stages. Room for all of them is asked for once, before.
-fn asks_in_vain(m: Machine, budget: usize, sent: usize, entered: &[u8; 128], log: &mut [u8]) -> Vain
-    requires { Asks m budget sent log.old }
-    ensures { (task : Task) → Onward task budget entered.now log.old m sent log.new (with_left m result.left) result.sent }
+fn asks_in_vain(m: &Machine, budget: usize, sent: usize, board: &Board, log: &mut [u8]) -> Vain
+    requires { Asks m.now budget sent log.old }
+    ensures { (task : Task) → Onward task budget board.now log.old m.now sent log.new (with_left m.now result.left) result.sent }
 {
     let none = Vain { left: m.left, sent };
-    let stage = m.stage;
-    let Stage::Searching = stage else {
+    let Stage::Searching = m.stage else {
         return none;
     };
     let h = m.half;
     if h % 2 == 0 || sent + site::MOST_HALVES >= budget {
         return none;
     }
-    let mut others = radios::without(m.left, h / 2);
-    let own = radios::and_not(m.left, others);
+    let mut others = m.left.without(h / 2);
+    let own = m.left.and_not(others);
     let mut at = sent;
-    while !radios::is_empty(others) {
-        let v = radios::first(others);
-        if !halves::is_entered(entered, 2 * v) {
+    while let Some(v) = others.first() {
+        if !board.entered.is_entered(2 * v) {
             break;
         }
-        message_log::put(log, at, tokens::telling(Kind::Pdt, h, 2 * v), m.round);
-        message_log::put(log, at + 1, tokens::telling(Kind::PdtB, 2 * v, h), m.round);
-        others = radios::without_first(others, v);
+        message_log::put(log, at, Message::new(Kind::Pdt, h, 2 * v), m.round);
+        message_log::put(log, at + 1, Message::new(Kind::PdtB, 2 * v, h), m.round);
+        others = others.without_first(v);
         at += 2;
     }
     Vain {
-        left: radios::both(others, own),
+        left: others.both(own),
         sent: at,
     }
 }
@@ -68,28 +67,26 @@ fn asks_in_vain(m: Machine, budget: usize, sent: usize, entered: &[u8; 128], log
 
 // The run from where the machine stands: each message goes into the log with the round that it leaves the machine in.
 fn run_on(
-    task: Task,
+    task: &Task,
     begin: Machine,
     budget: usize,
-    links: &[u64; 64],
-    rows: &mut [u64; 128],
-    entered: &mut [u8; 128],
-    halves: &mut [u8; 128],
+    links: &[Radios; 64],
+    board: &mut Board,
     log: &mut [u8],
 ) -> Ran
-    requires ready { (plan : Plan) × Ready plan 0 task begin links.now rows.old entered.old halves.old }
+    requires ready { (plan : Plan) × Ready plan 0 task.now begin links.now board.old }
     requires room_for { RoomFor budget log.old }
-    ensures { (plan : Plan) → Ready plan 0 task begin links.now rows.old entered.old halves.old → Leaves (run_from plan budget (state_of plan.site 0 begin rows.old entered.old halves.old)) result entered.new log.old log.new }
+    ensures { (plan : Plan) → Ready plan 0 task.now begin links.now board.old → Leaves (run_from plan budget (state_of plan.site 0 begin board.old)) result board.new.entered log.old log.new }
 {
     let mut machine = begin;
     let mut sent = 0;
+    // It counts messages, of which a turn may send many.
     while sent < budget {
-        let vain = asks_in_vain(machine, budget, sent, entered, log);
+        let vain = asks_in_vain(&machine, budget, sent, board, log);
         machine.left = vain.left;
         sent = vain.sent;
-        let stepped = machine::step(task, machine, links, rows, entered, halves);
-        let answer = stepped.answer;
-        let Answer::Sent(message) = answer else {
+        let stepped = machine::step(task, &machine, links, board);
+        let Answer::Sent(message) = stepped.answer else {
             break;
         };
         machine = stepped.machine;
@@ -104,31 +101,22 @@ fn run_on(
 }
 
 // The whole run of the token rules, its messages at the front of the log and the rest of the log as it was. The halves
-// entered in its last round are left in the bytes lent for them, whatever these held.
+// entered in its last round are left on the board lent for it, whatever this held. It stays a function of its own: within a
+// larger one the log's address has no register left, and is fetched anew for each message.
+#[inline(never)]
 pub fn run(
-    task: Task,
+    task: &Task,
     budget: usize,
-    links: &[u64; 64],
-    entered: &mut [u8; 128],
+    links: &[Radios; 64],
+    board: &mut Board,
     log: &mut [u8],
 ) -> Ran
-    requires { Runs task budget links.now log.old }
-    ensures { (plan : Plan) → Fresh plan task links.now → Leaves (run_from plan budget (start plan)) result entered.new log.old log.new }
+    requires { Runs task.now budget links.now log.old }
+    ensures { (plan : Plan) → Fresh plan task.now links.now → Leaves (run_from plan budget (start plan)) result board.new.entered log.old log.new }
 {
-    let mut rows = buffers::no_sets();
-    let mut halves = buffers::no_bytes();
-    openings::fill(task.n, task.s, task.t, task.passing, links, &mut rows);
+    openings::fill(task.n, task.s, task.t, task.passing, links, &mut board.rows);
     let source = 2 * task.s + 1;
-    halves::enter_only(entered, source);
-    let begin = machine::beginning(source, &rows, 1, 0);
-    run_on(
-        task,
-        begin,
-        budget,
-        links,
-        &mut rows,
-        entered,
-        &mut halves,
-        log,
-    )
+    board.entered.enter_only(source);
+    let begin = machine::beginning(source, &board.rows, 1, 0);
+    run_on(task, begin, budget, links, board, log)
 }

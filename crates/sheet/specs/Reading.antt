@@ -1,16 +1,13 @@
--- What the reading of the program promises.
-use Rattle.std.specs.Prelude.{ℕ, List}
+-- What the reading of the program promises of the bytes that it tells.
+use Rattle.std.specs.Prelude.{ℕ, List, ◌≤◌, ◌<◌, length}
 use Rattle.std.specs.declared.option.Option.{Option}
-use Rattle.streams.specs.Counts.{IsPrefixLen, BringsAll}
-use Rattle.sheet.specs.declared.Reading.{Reading}
-use Rattle.sheet.specs.declared.Reading.TheVariants.{Whole, Failed}
+use Rattle.std.specs.Io.KnownBytes.{Consumes, IsAtEnd}
 
--- the bytes read lie at the start of the text
-abbrev pub Within : Reading → List ℕ → Type 0
-Within (Whole length) text = IsPrefixLen length text
-Within Failed text = Unit {0}
+-- they lie in the room for them
+abbrev pub Within : ℕ → List ℕ → Type 0
+Within room text = length text ≤ room
 
--- a text that is told as whole is all that there was, or fills the room for it
-abbrev pub IfWhole : Option (List ℕ) → Option (List ℕ) → Reading → List ℕ → Type 0
-IfWhole old new (Whole length) text = BringsAll old new length text
-IfWhole old new Failed text = Unit {0}
+-- they are all that there was, or fill the room: of known bytes it took just those, and with room to spare there are no more
+pub record IsWhole (old new : Option (List ℕ)) (room : ℕ) (text : List ℕ) : Type 0 where
+  pub taken : Consumes old new text
+  pub to_the_end : length text < room → IsAtEnd new

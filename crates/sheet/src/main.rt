@@ -2,30 +2,24 @@
 // standard error.
 #![tactic(auto)]
 
-ghost use Rattle.sheet.specs.Reading.{Within, IfWhole};
+ghost use Rattle.std.specs.Prelude.{IfOk, length};
+ghost use Rattle.sheet.specs.Reading.{Within, IsWhole};
 
+use std::io;
 use std::io::Read;
 use streams::read_full;
 
 // One byte more than a text may have, so that a longer one is seen.
 const TEXT_BYTES: usize = text_survey::MOST_BYTES + 1;
 
-// What reading came to: so many bytes up to the end of the input or of the room for them, or a read that failed.
-#[derive(Clone, Copy)]
-enum Reading {
-    Whole(usize),
-    Failed,
-}
-
-// Half a capture must not become a sheet, so a read that fails is the answer.
-fn read_text<R: Read>(input: &mut R, text: &mut [u8]) -> Reading
-    ensures within { Within result text.new }
-    ensures whole { IfWhole (R.remaining input.old) (R.remaining input.new) result text.new }
+// The bytes up to the end of the input or of the room for them. Half a capture must not become a sheet, so a read that fails
+// is the answer.
+fn read_text<'a, R: Read>(input: &mut R, room: &'a mut [u8]) -> io::Result<&'a [u8]>
+    ensures within { IfOk result (λ text. Within (length room.old) text.now) }
+    ensures whole { IfOk result (λ text. IsWhole (R.remaining input.old) (R.remaining input.new) (length room.old) text.now) }
 {
-    match read_full(input, text) {
-        Ok(length) => Reading::Whole(length),
-        Err(_) => Reading::Failed,
-    }
+    let length = read_full(input, room)?;
+    Ok(&room[..length])
 }
 
 // Where nobody hears, nothing more can be done.
@@ -42,13 +36,13 @@ fn write_sheet_of(rt: &(impl Print + Eprint), text: &[u8]) {
 }
 
 fn main(rt: HostRuntime) {
-    let mut text = [0u8; TEXT_BYTES];
-    let Reading::Whole(length) = read_text(&mut rt.stdin(), &mut text) else {
+    let mut room = [0u8; TEXT_BYTES];
+    let Ok(text) = read_text(&mut rt.stdin(), &mut room) else {
         say(
             &rt,
             "sheet: standard input could not be read to its end, so there is no sheet\n",
         );
         return;
     };
-    write_sheet_of(&rt, &text[..length]);
+    write_sheet_of(&rt, text);
 }

@@ -1,5 +1,4 @@
-pub mod Writing
 pub mod Numbers
+pub mod Left
 pub mod Lines
-pub mod Paths
 pub mod Room

@@ -1,9 +1,11 @@
 -- How long a sheet can be: a caller that lends 512 bytes always has room. Assumes nothing.
-use mathlib.Core.Path.{ap, subst}
+use mathlib.Core.Path.{subst}
 use mathlib.Core.Bool.{Bool, true, false, cond}
 use mathlib.Core.List.{List, [], ◌∷◌, ◌++◌}
 use Prim.Native.Nat.{ℕ, zero, suc, ◌+◌, ◌*◌, ◌≤◌, ◌<◌}
 use native.Mathlib.Omega.{arith}
+use mir.Syntax.{w8}
+use mir.Val.{Fits}
 use lib.Dec.{eqb}
 use lib.ListN.{length, get_or, take, length-append}
 use Rattle.basics.specs.Lists.{All}
@@ -11,47 +13,48 @@ use Rattle.site.specs.Limits.{direct_link}
 use Rattle.captures.specs.Words.{full, short, link}
 use Rattle.captures.specs.Text.{decimal}
 use Rattle.path_lists.specs.Bytes.{path_bytes, Holds}
-use Rattle.sheet_lines.specs.Lines.{refused_line, report_line, radio_fields, path_lines, item_word, cut_lines}
+use Rattle.sheet_lines.specs.Lines.{field, ended, refused_line, report_line, radio_fields, path_lines, item_word, cut_lines}
 use Rattle.sheet_lines.proofs.Numbers.{digits-below-100, digits-below-1000, digits-below-100000}
-use Rattle.sheet_lines.proofs.Lines.{path-then, item_then, sheet-in-parts, refused-size, report-size, path-size, item_size}
 
 -- each of the list has three digits at most, as every byte has
 abbrev pub Small : List ℕ → Type 0
 Small = All (λ (x : ℕ). x < 1000)
 
--- ---- each part
+-- ---- each part, in front of what follows it
 
 pub refused-fits : (number place : ℕ) → number < 100000 → place < 100000 → length (refused_line number place) ≤ 20
-refused-fits number place h k = omega (arith, refused-size number place, digits-below-100000 number h, digits-below-100000 place k)
+unfolding refused_line
+refused-fits number place h k = simp length-append (omega (arith, digits-below-100000 number h, digits-below-100000 place k))
 
-pub report-fits : (capture : ℕ) (all : Bool) (paths rounds messages : ℕ) → capture < 100000 → paths < 100000 → rounds < 100000 → messages < 100000 → length (report_line capture all paths rounds messages []) ≤ 37
-report-fits capture all paths rounds messages c p r m =
-    omega (arith, report-size capture all paths rounds messages, word all, digits-below-100000 capture c, digits-below-100000 paths p, digits-below-100000 rounds r, digits-below-100000 messages m)
+report-fits : (capture : ℕ) (all : Bool) (paths rounds messages : ℕ) (rest : List ℕ) → capture < 100000 → paths < 100000 → rounds < 100000 → messages < 100000
+    → length (report_line capture all paths rounds messages rest) ≤ 37 + length rest
+unfolding report_line
+report-fits capture all paths rounds messages rest c p r m =
+    simp length-append (omega (arith, word all, digits-below-100000 capture c, digits-below-100000 paths p, digits-below-100000 rounds r, digits-below-100000 messages m))
   where
     word : (all : Bool) → length (cond all full short) ≤ 5
     word true = omega arith
     word false = omega arith
 
-radios_fit : (radios : List ℕ) → Small radios → length (radio_fields radios []) ≤ 4 * length radios
+radios_fit : (radios rest : List ℕ) → Small radios → length (radio_fields radios rest) ≤ 4 * length radios + length rest
 unfolding radio_fields
-radios_fit [] h = omega arith
-radios_fit (radio ∷ radios) h = omega (arith, length-append (decimal radio) (radio_fields radios []), digits-below-1000 radio h.0, radios_fit radios h.1)
+radios_fit [] rest h = omega arith
+radios_fit (radio ∷ radios) rest h = omega (arith, length-append (decimal radio) (radio_fields radios rest), digits-below-1000 radio h.0, radios_fit radios rest h.1)
 
 -- with numbers below 100: four bytes for each path and four for each byte of the path list
-pub paths_fit : (number : ℕ) (paths : List (List ℕ)) → number + length paths ≤ 100 → All Small paths → length (path_lines number paths []) ≤ 4 * length paths + 4 * length (path_bytes paths)
+paths_fit : (number : ℕ) (paths : List (List ℕ)) (rest : List ℕ) → number + length paths ≤ 100 → All Small paths
+    → length (path_lines number paths rest) ≤ 4 * length paths + 4 * length (path_bytes paths) + length rest
 unfolding path_lines path_bytes
-paths_fit number [] h small = omega arith
-paths_fit number (radios ∷ paths) h small =
-    let line : List ℕ = path_lines number (radios ∷ []) [] in
+paths_fit number [] rest h small = omega arith
+paths_fit number (radios ∷ paths) rest h small =
+    let others : List ℕ = path_lines (suc number) paths rest in
     omega (
       arith,
-      ap length (path-then number radios paths []),
-      length-append line (path_lines (suc number) paths []),
-      path-size number radios,
-      radios_fit radios small.0,
+      length-append (decimal number) (radio_fields radios (ended others)),
+      radios_fit radios (ended others) small.0,
       digits-below-100 number (omega arith),
       length-append radios (path_bytes paths),
-      paths_fit (suc number) paths (omega arith) small.1,
+      paths_fit (suc number) paths rest (omega arith) small.1,
     )
 
 word_fits : (item : ℕ) → item < 1000 → length (item_word item) ≤ 4
@@ -62,15 +65,15 @@ word_fits item h = pick (eqb item direct_link)
     pick false = omega (arith, digits-below-1000 item h)
 
 -- with numbers below 100: twelve bytes for each item
-pub cut_fits : (number : ℕ) (items : List ℕ) → number + length items ≤ 100 → Small items → length (cut_lines number items) ≤ 12 * length items
+cut_fits : (number : ℕ) (items : List ℕ) → number + length items ≤ 100 → Small items → length (cut_lines number items) ≤ 12 * length items
 unfolding cut_lines
 cut_fits number [] h small = omega arith
 cut_fits number (item ∷ items) h small =
+    let others : List ℕ = cut_lines (suc number) items in
     omega (
       arith,
-      ap length (item_then number item items),
-      length-append (cut_lines number (item ∷ [])) (cut_lines (suc number) items),
-      item_size number item,
+      length-append (decimal number) (field (item_word item) ++ ended others),
+      length-append (item_word item) (ended others),
       word_fits item small.0,
       digits-below-100 number (omega arith),
       cut_fits (suc number) items (omega arith) small.1,
@@ -93,14 +96,10 @@ pub record Moderate (capture found rounds messages : ℕ) (paths : List (List �
 pub sheet-fits : (capture : ℕ) (all : Bool) (found rounds messages : ℕ) (paths : List (List ℕ)) (items : List ℕ) → Moderate capture found rounds messages paths items
     → length (report_line capture all found rounds messages (path_lines 1 paths (cut_lines 1 items))) ≤ 512
 sheet-fits capture all found rounds messages paths items m =
-    let first : List ℕ = report_line capture all found rounds messages [] in
     omega (
       arith,
-      ap length (sheet-in-parts capture all found rounds messages paths (cut_lines 1 items)),
-      length-append first (path_lines 1 paths [] ++ cut_lines 1 items),
-      length-append (path_lines 1 paths []) (cut_lines 1 items),
-      report-fits capture all found rounds messages m.capture_number m.found_number m.round_number m.message_number,
-      paths_fit 1 paths (omega (arith, m.few_paths)) m.small_radios,
+      report-fits capture all found rounds messages (path_lines 1 paths (cut_lines 1 items)) m.capture_number m.found_number m.round_number m.message_number,
+      paths_fit 1 paths (cut_lines 1 items) (omega (arith, m.few_paths)) m.small_radios,
       cut_fits 1 items (omega (arith, m.few_items)) m.small_items,
       m.few_paths,
       m.short_list,
@@ -110,7 +109,7 @@ sheet-fits capture all found rounds messages paths items m =
 -- ---- what a caller knows of the lists that it lends
 
 -- every byte is small
-pub small_bytes : (list : List ℕ) → ((i : ℕ) → get_or list i 0 < 256) → Small list
+pub small_bytes : (list : List ℕ) → ((i : ℕ) → Fits w8 (get_or list i 0)) → Small list
 small_bytes [] h = tt
 small_bytes (x ∷ list) h = (omega (arith, h 0), small_bytes list (λ i. h (suc i)))
 

@@ -1,2 +1,2 @@
 pub mod Lines
-pub mod Written
+pub mod Room

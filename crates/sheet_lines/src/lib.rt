@@ -1,202 +1,177 @@
-// The lines of a sheet. Each writer appends to a lent buffer at its used length and answers the new used length.
+// The lines of a sheet, written one after the other into a fixed room.
 #![tactic(auto)]
 
-ghost use Rattle.std.specs.Prelude.{◌≡◌, cond, List, ◌∷◌, [], ℕ, ◌+◌, ◌≤◌, length, take};
+ghost use Rattle.std.specs.Prelude.{◌≡◌, List, ◌∷◌, [], ℕ, ◌++◌, ◌≤◌, length};
 ghost use Rattle.path_lists.specs.Bytes.{Holds};
-ghost use Rattle.captures.specs.Words.{full, short};
 ghost use Rattle.captures.specs.Text.{decimal};
-ghost use Rattle.sheet_lines.specs.Lines.{field, refused_line, report_line, radio_fields, path_lines, item_word, cut_lines};
-ghost use Rattle.sheet_lines.specs.Written.{Written, Printable};
+ghost use Rattle.sheet_lines.specs.Lines.{field, ended, refused_line, report_line, path_lines, cut_lines};
+ghost use Rattle.sheet_lines.specs.Room.{HasRoom, Printable};
 
+use arrayvec::ArrayVec;
 use captures::{LINE_FEED, TAB};
+use itoa::Buffer;
 use site::DIRECT_LINK;
+use std::marker::Model;
 
-// One byte.
-fn put_byte(out: &mut [u8], at: usize, byte: u8) -> usize
-    requires { at + 1 ≤ length out.old }
-    ensures { Written out.old out.new at (byte ∷ []) result }
-{
-    out[at] = byte;
-    at + 1
+// No sheet is longer.
+pub const SHEET_ROOM: usize = 512;
+
+// A sheet as far as it is written, with room for N bytes. Contracts see its bytes.
+#[derive(Drop)]
+pub struct Sheet<const N: usize> {
+    bytes: ArrayVec<u8, N>,
 }
 
-// A word, byte by byte.
-fn put_bytes(out: &mut [u8], at: usize, bytes: &[u8]) -> usize
-    requires { at + length bytes.now ≤ length out.old }
-    ensures { Written out.old out.new at bytes.now result }
-{
-    let size = bytes.len();
-    let mut next = at;
-    for i in 0..size {
-        out[next] = bytes[i];
-        next += 1;
+impl<const N: usize> Model for Sheet<N> {
+    ghost Value = { List ℕ };
+
+    ghost view = { λ sheet. sheet.bytes.items };
+}
+
+// What the first line of an accepted call's sheet tells. `all` says that as many paths were found as were wanted.
+#[derive(Clone, Copy)]
+pub struct Report {
+    pub capture: usize,
+    pub all: bool,
+    pub paths: usize,
+    pub rounds: usize,
+    pub messages: usize,
+}
+
+impl<const N: usize> Sheet<N> {
+    // Nothing is written yet.
+    pub fn new() -> Self
+        ensures { result ≡ [] }
+    {
+        Sheet {
+            bytes: ArrayVec::new(),
+        }
     }
-    next
-}
 
-// How many digits a number has.
-fn width(x: usize) -> usize
-    ensures { result ≡ length (decimal x) }
-{
-    let mut rest = x;
-    let mut digits = 1;
-    while rest >= 10 {
-        rest = rest / 10;
-        digits += 1;
+    // What is written.
+    pub fn as_bytes(&self) -> &[u8]
+        ensures bytes { result.now ≡ self.now }
+        ensures upper_bound { length result.now ≤ N }
+    {
+        self.bytes.as_slice()
     }
-    digits
-}
 
-// A number in decimal, its last digit first, since the last is the one that a division gives.
-fn put_number(out: &mut [u8], at: usize, x: usize) -> usize
-    requires { at + length (decimal x) ≤ length out.old }
-    ensures { Written out.old out.new at (decimal x) result }
-{
-    let digits = width(x);
-    let end = at + digits;
-    let mut rest = x;
-    for done in 0..digits {
-        let place = end - 1 - done;
-        out[place] = b'0' + (rest % 10) as u8;
-        rest = rest / 10;
+    // A word. There is room, so it is never refused.
+    fn put(&mut self, word: &[u8])
+        requires { HasRoom N self.old word.now }
+        ensures { self.new ≡ self.old ++ word.now }
+    {
+        let _ = self.bytes.try_extend_from_slice(word);
     }
-    end
-}
 
-// A field that is a number.
-fn put_field_number(out: &mut [u8], at: usize, x: usize) -> usize
-    requires { at + length (field (decimal x)) ≤ length out.old }
-    ensures { Written out.old out.new at (field (decimal x)) result }
-{
-    let start = put_byte(out, at, TAB);
-    put_number(out, start, x)
-}
-
-// A field that is a word.
-fn put_field_word(out: &mut [u8], at: usize, word: &[u8]) -> usize
-    requires { at + length (field word.now) ≤ length out.old }
-    ensures { Written out.old out.new at (field word.now) result }
-{
-    let start = put_byte(out, at, TAB);
-    put_bytes(out, start, word)
-}
-
-// The line of a refusal.
-pub fn put_refused(out: &mut [u8], at: usize, number: usize, place: usize) -> usize
-    requires { at + length (refused_line number place) ≤ length out.old }
-    ensures { Written out.old out.new at (refused_line number place) result }
-{
-    let after_word = put_bytes(out, at, b"refused");
-    let after_number = put_field_number(out, after_word, number);
-    let after_place = put_field_number(out, after_number, place);
-    put_byte(out, after_place, LINE_FEED)
-}
-
-// "full" where as many paths were found as were wanted, else "short".
-fn put_field_all(out: &mut [u8], at: usize, all: bool) -> usize
-    requires { at + length (field (cond all full short)) ≤ length out.old }
-    ensures { Written out.old out.new at (field (cond all full short)) result }
-{
-    if all {
-        return put_field_word(out, at, b"full");
+    // The end of a line.
+    fn end_line(&mut self)
+        requires { HasRoom N self.old (ended []) }
+        ensures { self.new ≡ self.old ++ ended [] }
+    {
+        self.bytes.push(LINE_FEED);
     }
-    put_field_word(out, at, b"short")
-}
 
-// The first line of an accepted call's sheet. `all` says that as many paths were found as were wanted.
-pub fn put_report(
-    out: &mut [u8],
-    at: usize,
-    capture: usize,
-    all: bool,
-    paths: usize,
-    rounds: usize,
-    messages: usize,
-) -> usize
-    requires { at + length (report_line capture all paths rounds messages []) ≤ length out.old }
-    ensures { Written out.old out.new at (report_line capture all paths rounds messages []) result }
-{
-    let after_word = put_bytes(out, at, b"report");
-    let after_capture = put_field_number(out, after_word, capture);
-    let after_all = put_field_all(out, after_capture, all);
-    let after_paths = put_field_number(out, after_all, paths);
-    let after_rounds = put_field_number(out, after_paths, rounds);
-    let after_messages = put_field_number(out, after_rounds, messages);
-    put_byte(out, after_messages, LINE_FEED)
-}
-
-// The radios of one path, each a field.
-fn put_radios(out: &mut [u8], at: usize, radios: &[u8]) -> usize
-    requires { at + length (radio_fields radios.now []) ≤ length out.old }
-    ensures { Written out.old out.new at (radio_fields radios.now []) result }
-{
-    let size = radios.len();
-    let mut next = at;
-    for i in 0..size {
-        next = put_field_number(out, next, radios[i] as usize);
+    // A field that is a word.
+    fn put_word(&mut self, word: &[u8])
+        requires { HasRoom N self.old (field word.now) }
+        ensures { self.new ≡ self.old ++ field word.now }
+    {
+        self.bytes.push(TAB);
+        self.put(word);
     }
-    next
-}
 
-// The line of one path.
-fn put_path(out: &mut [u8], at: usize, number: usize, radios: &[u8]) -> usize
-    requires { at + length (path_lines number (radios.now ∷ []) []) ≤ length out.old }
-    ensures { Written out.old out.new at (path_lines number (radios.now ∷ []) []) result }
-{
-    let after_word = put_bytes(out, at, b"path");
-    let after_number = put_field_number(out, after_word, number);
-    let after_radios = put_radios(out, after_number, radios);
-    put_byte(out, after_radios, LINE_FEED)
-}
-
-// The lines of the first `count` paths of a path list. Each path's radios are lent as a part of the list.
-pub fn put_paths(out: &mut [u8], at: usize, list: &[u8], count: usize) -> usize
-    requires { Printable out.old at list.now count }
-    ensures { (paths : List (List ℕ)) → Holds list.now count paths → Written out.old out.new at (path_lines 1 paths []) result }
-{
-    let mut next = at;
-    let mut place = 0;
-    for i in 0..count {
-        let part = path_lists::part_at(list, place);
-        let start = part.start;
-        let end = part.end;
-        next = put_path(out, next, i + 1, &list[start..end]);
-        place = end;
+    // A field that is a number.
+    #[tactic(auto, using(crate::proofs::Numbers::as_printed))]
+    fn put_number(&mut self, number: usize)
+        requires { HasRoom N self.old (field (decimal number)) }
+        ensures { self.new ≡ self.old ++ field (decimal number) }
+    {
+        self.put_word(Buffer::new().format(number).as_bytes());
     }
-    next
-}
 
-// A cut item: its radio, or the word for the direct link.
-fn put_field_item(out: &mut [u8], at: usize, item: u8) -> usize
-    requires { at + length (field (item_word item)) ≤ length out.old }
-    ensures { Written out.old out.new at (field (item_word item)) result }
-{
-    if item == DIRECT_LINK {
-        return put_field_word(out, at, b"link");
+    // The line of a refusal.
+    #[tactic(auto, unfolding(crate::specs::Lines::refused_line))]
+    pub fn put_refused(&mut self, number: usize, place: usize)
+        requires { HasRoom N self.old (refused_line number place) }
+        ensures { self.new ≡ self.old ++ refused_line number place }
+    {
+        self.put(b"refused");
+        self.put_number(number);
+        self.put_number(place);
+        self.end_line();
     }
-    put_field_number(out, at, item as usize)
-}
 
-// The line of one cut item.
-fn put_item(out: &mut [u8], at: usize, number: usize, item: u8) -> usize
-    requires { at + length (cut_lines number (item ∷ [])) ≤ length out.old }
-    ensures { Written out.old out.new at (cut_lines number (item ∷ [])) result }
-{
-    let after_word = put_bytes(out, at, b"cut");
-    let after_number = put_field_number(out, after_word, number);
-    let after_item = put_field_item(out, after_number, item);
-    put_byte(out, after_item, LINE_FEED)
-}
-
-// The lines of the first `count` items of a cut list.
-pub fn put_cut(out: &mut [u8], at: usize, items: &[u8], count: usize) -> usize
-    requires count_in_bounds { count ≤ length items.now }
-    requires in_bounds { at + length (cut_lines 1 (take count items.now)) ≤ length out.old }
-    ensures { Written out.old out.new at (cut_lines 1 (take count items.now)) result }
-{
-    let mut next = at;
-    for i in 0..count {
-        next = put_item(out, next, i + 1, items[i]);
+    // The first line of an accepted call's sheet.
+    #[tactic(auto, unfolding(crate::specs::Lines::report_line))]
+    pub fn put_report(&mut self, report: Report)
+        requires { HasRoom N self.old (report_line report.capture report.all report.paths report.rounds report.messages []) }
+        ensures { self.new ≡ self.old ++ report_line report.capture report.all report.paths report.rounds report.messages [] }
+    {
+        self.put(b"report");
+        self.put_number(report.capture);
+        if report.all {
+            self.put_word(b"full");
+        } else {
+            self.put_word(b"short");
+        }
+        self.put_number(report.paths);
+        self.put_number(report.rounds);
+        self.put_number(report.messages);
+        self.end_line();
     }
-    next
+
+    // The line of one path.
+    #[tactic(auto, unfolding(crate::specs::Lines::path_lines))]
+    fn put_path(&mut self, number: usize, radios: &[u8])
+        requires { HasRoom N self.old (path_lines number (radios.now ∷ []) []) }
+        ensures { self.new ≡ self.old ++ path_lines number (radios.now ∷ []) [] }
+    {
+        self.put(b"path");
+        self.put_number(number);
+        for &radio in radios {
+            self.put_number(radio as usize);
+        }
+        self.end_line();
+    }
+
+    // The lines of the first `count` paths of a path list.
+    pub fn put_paths(&mut self, list: &[u8], count: usize)
+        requires { Printable N self.old list.now count }
+        ensures { (paths : List (List ℕ)) → Holds list.now count paths → self.new ≡ self.old ++ path_lines 1 paths [] }
+    {
+        let mut place = 0;
+        // By number, which stands on the line; where the next path stands the one before says.
+        for i in 0..count {
+            let path = path_lists::path_at(list, place);
+            self.put_path(i + 1, path);
+            place += 1 + path.len();
+        }
+    }
+
+    // The line of one cut item: its radio, or the word for the direct link.
+    #[tactic(auto, unfolding(crate::specs::Lines::cut_lines))]
+    fn put_item(&mut self, number: usize, item: u8)
+        requires { HasRoom N self.old (cut_lines number (item ∷ [])) }
+        ensures { self.new ≡ self.old ++ cut_lines number (item ∷ []) }
+    {
+        self.put(b"cut");
+        self.put_number(number);
+        if item == DIRECT_LINK {
+            self.put_word(b"link");
+        } else {
+            self.put_number(item as usize);
+        }
+        self.end_line();
+    }
+
+    // The lines of a cut list.
+    pub fn put_cut(&mut self, items: &[u8])
+        requires { HasRoom N self.old (cut_lines 1 items.now) }
+        ensures { self.new ≡ self.old ++ cut_lines 1 items.now }
+    {
+        for (i, &item) in items.iter().enumerate() {
+            self.put_item(i + 1, item);
+        }
+    }
 }

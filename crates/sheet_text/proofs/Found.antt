@@ -1,12 +1,14 @@
 -- The sheet of a survey, part by part: it has room, and the parts together are the sheet. Assumes nothing.
 use mathlib.Core.Path.{◌≡◌, sym, ap, ap₂, ◌∙◌, subst}
 use mathlib.Core.Bool.{Bool}
-use mathlib.Core.List.{List, [], ◌++◌, append-nil}
-use Prim.Native.Nat.{ℕ, ◌+◌, ◌-◌, ◌≤◌}
+use mathlib.Core.List.{List, [], ◌++◌, append_assoc, append-nil}
+use Prim.Native.Nat.{ℕ, ◌-◌, ◌≤◌}
 use native.Mathlib.Decide.{ℕ_discrete}
 use native.Mathlib.Omega.{arith}
+use mir.Syntax.{w8}
+use mir.Val.{Fits}
 use lib.Dec.{eqb}
-use lib.ListN.{length, take, replicate, length-append}
+use lib.ListN.{length, get_or, take, drop, replicate, length-append, length-drop}
 use lib.Seq.{take_at}
 use borrow.Author.Tests.{eq-eqb, ne_eqb}
 use Rattle.buffers.specs.Zeros.{zeros_after}
@@ -14,20 +16,20 @@ use Rattle.outcome.specs.declared.Outcome.{Outcome}
 use Rattle.path_lists.specs.Bytes.{path_bytes, Holds}
 use Rattle.path_lists.proofs.Walking.{holds_front}
 use Rattle.sheet_lines.specs.Lines.{refused_line, report_line, path_lines, cut_lines}
-use Rattle.sheet_lines.specs.Written.{Written, Printable}
-use Rattle.sheet_lines.proofs.Writing.{join, kept, room_first, room_then, used}
+use Rattle.sheet_lines.specs.Room.{HasRoom, Printable}
 use Rattle.sheet_lines.proofs.Lines.{sheet-in-parts}
-use Rattle.sheet_lines.proofs.Room.{Small, Moderate, refused-fits, sheet-fits, small_take, small_paths}
+use Rattle.sheet_lines.proofs.Room.{Small, Moderate, refused-fits, sheet-fits, small_bytes, small_take, small_paths}
 use Rattle.text_survey.specs.declared.Surveyed.{Surveyed}
 use Rattle.text_survey.specs.Survey.{paths_lent, cut_lent, TextSurvey}
 use Rattle.text_survey.specs.Delivered.{Bounded, Delivered}
 use Rattle.sheet_text.specs.Sheet.{sheet_of, sheet_room}
 
--- what is written from the start, and zeros after it
-pub rest_cleared : {before after bytes : List ℕ} {next : ℕ} → Written before after 0 bytes next → take next after ++ replicate (length after - next) 0 ≡ zeros_after (length before) bytes
-rest_cleared {before} {after} {bytes} {next} w =
-    let left : length after - next ≡ length before - length bytes = omega (arith, kept w) in
-    ap₂ (λ (front : List ℕ) (m : ℕ). front ++ replicate m 0) (used w) left
+-- the sheet copied to the start of the buffer, and zeros after it
+pub rest_cleared : (out : List ℕ) {out' copied sheet : List ℕ} {used : ℕ} → out' ≡ take used (copied ++ drop used out) ++ replicate (length (copied ++ drop used out) - used) 0
+    → copied ≡ sheet → used ≡ length sheet → used ≤ length out → out' ≡ zeros_after (length out) sheet
+rest_cleared out {out'} {copied} {sheet} {used} cleared is size h =
+    let left : length (sheet ++ drop used out) - used ≡ length out - length sheet = omega (arith, length-append sheet (drop used out), length-drop used out) in
+    cleared ∙ rw is (ap₂ (λ (front : List ℕ) (m : ℕ). front ++ replicate m 0) (take_at sheet (drop used out) used (sym size)) left)
 
 module _ {survey : TextSurvey} {found : Surveyed} {paths cut : List ℕ} (delivered : Delivered survey found paths cut) where
   abbrev o : Outcome
@@ -45,12 +47,12 @@ module _ {survey : TextSurvey} {found : Surveyed} {paths cut : List ℕ} (delive
 
   -- ---- a refusal
 
-  pub refused_room : {room : ℕ} → sheet_room ≤ room → 0 + length (refused_line o.refusal o.place) ≤ room
-  refused_room lent = omega (arith, refused-fits o.refusal o.place (omega (arith, bounded.refusal)) (omega (arith, bounded.place)))
+  pub refused_room : {blank : List ℕ} → blank ≡ [] → HasRoom sheet_room blank (refused_line o.refusal o.place)
+  refused_room none = rw none (omega (arith, refused-fits o.refusal o.place (omega (arith, bounded.refusal)) (omega (arith, bounded.place))))
 
-  pub refused_sheet : {out out' : List ℕ} {next : ℕ} → (o.refusal ≡ 0 → ⊥) → Written out out' 0 (refused_line o.refusal o.place) next → Written out out' 0 (sheet_of survey) next
+  pub refused_sheet : {blank sheet : List ℕ} → blank ≡ [] → (o.refusal ≡ 0 → ⊥) → sheet ≡ blank ++ refused_line o.refusal o.place → sheet ≡ sheet_of survey
   unfolding sheet_of
-  refused_sheet {out} {out'} {next} refused w = subst (λ (s : TextSurvey). Written out out' 0 (sheet_of s) next) same (rw (ne_eqb o.refusal 0 refused) w)
+  refused_sheet {blank} {sheet} none refused w = subst (λ (s : TextSurvey). sheet ≡ sheet_of s) same (rw (ne_eqb o.refusal 0 refused) (rw none at w))
 
   -- ---- the lists
 
@@ -63,10 +65,10 @@ module _ {survey : TextSurvey} {found : Surveyed} {paths cut : List ℕ} (delive
   items_are : (o.paths ≡ found.wanted → ⊥) → take o.paths cut ≡ survey.cut
   items_are lacking = ap (take o.paths) delivered.cut_is ∙ take_at survey.cut (replicate (cut_lent - length survey.cut) 0) o.paths (bounded.items lacking)
 
-  module _ (small : Small paths × Small cut) where
+  module _ (path_bytes_fit : (i : ℕ) → Fits w8 (get_or paths i 0)) (cut_bytes_fit : (i : ℕ) → Fits w8 (get_or cut i 0)) where
     small_items : Dec (o.paths ≡ found.wanted) → Small survey.cut
     small_items (yes e) = rw (bounded.full e) tt
-    small_items (no lacking) = rw (← items_are lacking) (small_take o.paths cut small.1)
+    small_items (no lacking) = rw (← items_are lacking) (small_take o.paths cut (small_bytes cut cut_bytes_fit))
 
     -- ---- the whole sheet
 
@@ -79,7 +81,7 @@ module _ {survey : TextSurvey} {found : Surveyed} {paths cut : List ℕ} (delive
           message_number = omega (arith, bounded.few_messages);
           few_paths = omega (arith, bounded.number, bounded.few_paths);
           short_list = bounded.paths_fit;
-          small_radios = small_paths listed small.0;
+          small_radios = small_paths listed (small_bytes paths path_bytes_fit);
           few_items = bounded.cut_fits;
           small_items = small_items (ℕ_discrete o.paths found.wanted);
         }
@@ -108,34 +110,31 @@ module _ {survey : TextSurvey} {found : Surveyed} {paths cut : List ℕ} (delive
 
     -- ---- its three parts, one after the other
 
-    module _ (out : List ℕ) (lent : sheet_room ≤ length out) where
-      room_for_all : 0 + length (first ++ (middle ++ last)) ≤ length out
-      room_for_all = omega (arith, fits)
+    module _ {blank : List ℕ} (none : blank ≡ []) where
+      pub report_room : HasRoom sheet_room blank first
+      report_room = rw none (omega (arith, fits, length-append first (middle ++ last)))
 
-      pub report_room : 0 + length first ≤ length out
-      report_room = room_first 0 first (middle ++ last) room_for_all
+      module _ {reported : List ℕ} (report_is : reported ≡ blank ++ first) where
+        pub paths_room : Printable sheet_room reported paths o.paths
+        paths_room =
+            record {
+              paths = survey.paths;
+              listed = listed;
+              room = omega (arith, fits, ap length none, ap length report_is, length-append blank first, length-append first (middle ++ last), length-append middle last);
+            }
 
-      module _ {out₁ : List ℕ} {after-report : ℕ} (reported : Written out out₁ 0 first after-report) where
-        room_after : after-report + length (middle ++ last) ≤ length out₁
-        room_after = room_then reported (middle ++ last) room_for_all
+        module _ {written : List ℕ} (paths_are : written ≡ reported ++ middle) where
+          -- both parts, and what is still to come
+          two_parts : (rest : List ℕ) → written ++ rest ≡ first ++ (middle ++ rest)
+          two_parts rest = rw (paths_are, report_is, none) (append_assoc first middle rest)
 
-        pub paths_room : Printable out₁ after-report paths o.paths
-        paths_room = record { paths = survey.paths; listed = listed; room = room_first after-report middle last room_after }
-
-        module _ {out₂ : List ℕ} {after-paths : ℕ} (listing : Written out₁ out₂ after-report middle after-paths) where
-          pub full_sheet : o.refusal ≡ 0 → o.paths ≡ found.wanted → Written out out₂ 0 (sheet_of survey) after-paths
+          pub full_sheet : o.refusal ≡ 0 → o.paths ≡ found.wanted → written ≡ sheet_of survey
           unfolding cut_lines
-          full_sheet accepted e = subst (λ (l : List ℕ). Written out out₂ 0 l after-paths) joined (join reported listing)
-            where
-              joined : first ++ middle ≡ sheet_of survey
-              joined = ap (λ (l : List ℕ). first ++ l) (sym (append-nil middle)) ∙ ap (λ (l : List ℕ). first ++ (middle ++ cut_lines 1 l)) (sym (bounded.full e)) ∙ whole accepted
+          full_sheet accepted e = sym (append-nil written) ∙ two_parts [] ∙ ap (λ (l : List ℕ). first ++ (middle ++ cut_lines 1 l)) (sym (bounded.full e)) ∙ whole accepted
 
           module _ (lacking : o.paths ≡ found.wanted → ⊥) where
-            pub items_room : (o.paths ≤ length cut) × (after-paths + length (cut_lines 1 (take o.paths cut)) ≤ length out₂)
-            items_room = (
-              omega (arith, ap length delivered.cut_is, length-append survey.cut (replicate (cut_lent - length survey.cut) 0), bounded.items lacking),
-              rw (items_are lacking) (room_then listing last room_after),
-            )
+            pub items_room : HasRoom sheet_room written (cut_lines 1 (take o.paths cut))
+            items_room = rw (items_are lacking) (omega (arith, fits, ap length (two_parts last), length-append written last))
 
-            pub short_sheet : {out₃ : List ℕ} {after-cut : ℕ} → o.refusal ≡ 0 → Written out₂ out₃ after-paths (cut_lines 1 (take o.paths cut)) after-cut → Written out out₃ 0 (sheet_of survey) after-cut
-            short_sheet accepted w = rw (← whole accepted) (join reported (join listing (rw (items_are lacking) at w)))
+            pub short_sheet : {sheet : List ℕ} → o.refusal ≡ 0 → sheet ≡ written ++ cut_lines 1 (take o.paths cut) → sheet ≡ sheet_of survey
+            short_sheet accepted w = rw (items_are lacking) at w ∙ two_parts last ∙ whole accepted

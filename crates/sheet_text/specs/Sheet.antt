@@ -2,6 +2,7 @@
 -- those of `sheet_lines`.
 use Rattle.std.specs.Prelude.{cond, List, [], ℕ, eqb, ltb}
 use Rattle.sheet_lines.specs.Lines.{refused_line, report_line, path_lines, cut_lines}
+pub use Rattle.sheet_lines.specs.Room.{sheet_room}
 use Rattle.text_survey.specs.Survey.{TextSurvey, survey_of}
 
 -- ---- the sheet of a survey
@@ -18,10 +19,6 @@ unfoldable pub sheet : List ℕ → List ℕ
 sheet text = sheet_of (survey_of text)
 
 -- ---- the sheet in a lent buffer
-
--- no sheet is longer
-abbrev pub sheet_room : ℕ
-sheet_room = 512
 
 -- with less room nothing is written
 abbrev pub sheet_in : ℕ → List ℕ → List ℕ

@@ -5,7 +5,7 @@ use std::env::{Env, FillError};
 use std::fs::File;
 use std::io;
 use std::io::Write;
-use streams::{put, read_full};
+use streams::{put, put_bytes, read_full};
 
 // As the program `sheet` reads: one byte more than a text may have.
 const TEXT_BYTES: usize = text_survey::MOST_BYTES + 1;
@@ -19,16 +19,22 @@ const OLD_BYTE: u8 = 0xAA;
 fn write_sheet_of(out: &impl Print, text: &[u8]) {
     let mut sheet = [OLD_BYTE; sheet_text::SHEET_ROOM];
     let written = sheet_text::write_sheet(text, &mut sheet);
-    put(out, &sheet[..written]);
+    put_bytes(out, &sheet[..written]);
 }
 
 // The system's words alone, without the number that stands behind them.
 fn words_of(told: &[u8]) -> &[u8] {
-    let mut end = 0;
-    while end < told.len() && told[end] != 0 && !told[end..].starts_with(b" (os error ") {
-        end += 1;
-    }
-    &told[..end]
+    let number = b" (os error ".as_slice();
+    let length = told
+        .iter()
+        .position(|byte| *byte == 0)
+        .unwrap_or(told.len());
+    let told = &told[..length];
+    let length = told
+        .windows(number.len())
+        .position(|part| part == number)
+        .unwrap_or(told.len());
+    &told[..length]
 }
 
 // A line on standard error: the name, a colon, and why it cannot be opened.
@@ -36,19 +42,19 @@ fn fail(rt: &HostRuntime, name: &[u8], error: &io::Error) {
     let err = rt.stderr();
     let mut told = io::Cursor::new([0u8; WORDS_BYTES]);
     let _ = write!(told, "{error}");
-    let told = told.into_inner();
-    put(&err, name);
-    put(&err, b": ");
-    put(&err, words_of(&told));
-    put(&err, b"\n");
+    put_bytes(&err, name);
+    put(&err, ": ");
+    put_bytes(&err, words_of(&told.into_inner()));
+    put(&err, "\n");
 }
 
 // A path is text.
 fn open(rt: &HostRuntime, name: &[u8]) -> io::Result<File> {
-    match str::from_utf8(name) {
-        Ok(path) => File::open(rt, path),
-        Err(_) => Err(io::Error::new(io::ErrorKind::InvalidInput, "the name is not UTF-8")),
-    }
+    let path = str::from_utf8(name).map_err(|_| io::Error::new(
+        io::ErrorKind::InvalidInput,
+        "the name is not UTF-8",
+    ))?;
+    File::open(rt, path)
 }
 
 // Where a file cannot be opened it has no sheet; one that cannot be read ends it all.
@@ -66,25 +72,25 @@ fn read_and_write(rt: &HostRuntime, name: &[u8]) -> io::Result<()> {
     Ok(())
 }
 
-// The sheet of the sample that argument i names. A name that finds no room is read as an empty one. Is there such an argument?
-fn answer(rt: &HostRuntime, i: usize) -> io::Result<bool> {
-    let mut name = [0u8; NAME_BYTES];
-    let length = match rt.arg(i, &mut name) {
-        Ok(length) => length,
-        Err(FillError::TooLong) => 0,
-        Err(FillError::NotPresent) => return Ok(false),
-    };
-    put(rt, &name[..length]);
-    put(rt, b"\n");
-    read_and_write(rt, &name[..length])?;
-    Ok(true)
+// What argument i says, if there is one. What finds no room is read as an empty name.
+fn name_at<'a>(rt: &HostRuntime, i: usize, room: &'a mut [u8]) -> Option<&'a [u8]> {
+    match rt.arg(i, room) {
+        Ok(length) => Some(&room[..length]),
+        Err(FillError::TooLong) => Some(&[]),
+        Err(FillError::NotPresent) => None,
+    }
 }
 
 fn main(rt: HostRuntime) -> io::Result<()> {
+    let mut room = [0u8; NAME_BYTES];
+    // By number: so the library hands out arguments without memory of its own.
     for i in 1..usize::MAX {
-        if !answer(&rt, i)? {
+        let Some(name) = name_at(&rt, i, &mut room) else {
             break;
-        }
+        };
+        put_bytes(&rt, name);
+        put(&rt, "\n");
+        read_and_write(&rt, name)?;
     }
     Ok(())
 }

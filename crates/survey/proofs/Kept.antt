@@ -3,34 +3,36 @@ use mathlib.Core.Path.{◌≡◌, refl, sym, ap, ◌∙◌}
 use mathlib.Core.List.{List}
 use Prim.Native.Nat.{ℕ}
 use lib.ListN.{length, replicate}
+use Rattle.std.specs.Prelude.{Result, Ok, Err}
 use Rattle.refusals.specs.Refusals.{Call, call_of, verdict, number, place_of}
+use Rattle.refusals.specs.declared.Refusal.{Refusal}
+use Rattle.refusals.proofs.Exactly.{some_number}
 use Rattle.refusals.proofs.Accepted.{Room, accepted_valid, accepted_room}
 use Rattle.site.proofs.Valid.{Valid}
 use Rattle.outcome.specs.declared.Outcome.{Outcome}
 use Rattle.outcome.specs.Leaves.{outcome}
-use Rattle.checks.specs.declared.CallAnswer.{CallAnswer}
-use Rattle.checks.specs.Checked.{Judged}
+use Rattle.checks.specs.Checked.{Judged, verdict_of}
 use Rattle.demands.specs.Demand1.{NothingLeft}
 use Rattle.demands.specs.Promise.{Promise}
 use Rattle.demands.proofs.First.{demand_1}
 use Rattle.demands.proofs.Demands.{demand_2, demand_3}
 use Rattle.survey.specs.Parts.{Given, LeftBehind}
 
-module _ (n : ℕ) (table : List ℕ) (s t k : ℕ) (log paths cut rows : List ℕ) {answer : CallAnswer} (judged : Judged (call_of n table s t k (length log) (length paths) (length cut)) rows answer) where
+module _ (n : ℕ) (table : List ℕ) (s t k : ℕ) (log paths cut rows : List ℕ) {answer : Result ℕ Refusal} (judged : Judged (call_of n table s t k (length log) (length paths) (length cut)) rows answer) where
   abbrev call : Call
   call = call_of n table s t k (length log) (length paths) (length cut)
 
   -- the number is the verdict's
-  told : (outcome call).refusal ≡ number answer.verdict
+  told : (outcome call).refusal ≡ number (verdict_of answer)
   unfolding outcome
   told = ap number (sym judged.told)
 
-  place_told : (outcome call).place ≡ place_of answer.verdict
+  place_told : (outcome call).place ≡ place_of (verdict_of answer)
   unfolding outcome
   place_told = ap place_of (sym judged.told)
 
-  pub given : number answer.verdict ≡ 0 → Given (record { n = n; s = s; t = t; k = k; passing = answer.passing }) rows log paths cut
-  given accepted =
+  pub given : (passing : ℕ) → answer ≡ Ok passing → Given (record { n = n; s = s; t = t; k = k; passing = passing }) rows log paths cut
+  given passing is =
       record {
         call = call;
         accepted = told ∙ accepted;
@@ -42,8 +44,8 @@ module _ (n : ℕ) (table : List ℕ) (s t k : ℕ) (log paths cut rows : List �
             sink = refl;
             wanted = refl;
             order = refl;
-            passing = judged.passing_are accepted;
-            linked = judged.rows_are accepted;
+            passing = rw is at judged.passing_are;
+            linked = rw is at judged.rows_are;
           };
           none_kept = refl;
           none_marked = refl;
@@ -54,6 +56,9 @@ module _ (n : ℕ) (table : List ℕ) (s t k : ℕ) (log paths cut rows : List �
         cut-lent = refl;
       }
     where
+      accepted : number (verdict_of answer) ≡ 0
+      accepted = ap (λ (a : Result ℕ Refusal). number (verdict_of a)) is
+
       no_refusal : number (verdict call) ≡ 0
       no_refusal = ap number (sym judged.told) ∙ accepted
 
@@ -63,10 +68,10 @@ module _ (n : ℕ) (table : List ℕ) (s t k : ℕ) (log paths cut rows : List �
       room : Room call
       room = accepted_room call no_refusal
 
-  pub kept_accepted : {numbers : Outcome} {log' paths' cut' : List ℕ} → number answer.verdict ≡ 0
-      → ((g : Given (record { n = n; s = s; t = t; k = k; passing = answer.passing }) rows log paths cut) → LeftBehind g.call numbers log' paths' cut') → Promise call numbers log' paths' cut'
+  pub kept_accepted : {numbers : Outcome} {log' paths' cut' : List ℕ} → (passing : ℕ) → answer ≡ Ok passing
+      → ((g : Given (record { n = n; s = s; t = t; k = k; passing = passing }) rows log paths cut) → LeftBehind g.call numbers log' paths' cut') → Promise call numbers log' paths' cut'
   unfolding given
-  kept_accepted {numbers} {log'} {paths'} {cut'} accepted leaves =
+  kept_accepted {numbers} {log'} {paths'} {cut'} passing is leaves =
       record {
         numbers_are = left.numbers_are;
         log_is = left.log_is;
@@ -78,12 +83,12 @@ module _ (n : ℕ) (table : List ℕ) (s t k : ℕ) (log paths cut rows : List �
       }
     where
       left : LeftBehind call numbers log' paths' cut'
-      left = leaves (given accepted)
+      left = leaves (given passing is)
 
-  pub kept_refused : {numbers : Outcome} {log' paths' cut' : List ℕ} → (number answer.verdict ≡ 0 → ⊥)
-      → numbers ≡ record { refusal = number answer.verdict; place = place_of answer.verdict; paths = 0; rounds = 0; messages = 0 }
+  pub kept_refused : {numbers : Outcome} {log' paths' cut' : List ℕ} → (refusal : Refusal) → answer ≡ Err refusal
+      → numbers ≡ record { refusal = number (Err refusal); place = place_of (Err refusal); paths = 0; rounds = 0; messages = 0 }
       → log' ≡ replicate (length log) 0 → paths' ≡ replicate (length paths) 0 → cut' ≡ replicate (length cut) 0 → Promise call numbers log' paths' cut'
-  kept_refused {numbers} refused numbers-told log-zero paths-zero cut-zero =
+  kept_refused {numbers} refusal is numbers-told log-zero paths-zero cut-zero =
       record {
         numbers_are = numbers-told ∙ same;
         log_is = log-zero ∙ sym nothing.log;
@@ -94,8 +99,14 @@ module _ (n : ℕ) (table : List ℕ) (s t k : ℕ) (log paths cut rows : List �
         demand_3 = demand_3 call;
       }
     where
-      nothing : NothingLeft call
-      nothing = (demand_1 call).nothing_left (λ e. refused (sym told ∙ e))
+      number_told : (outcome call).refusal ≡ number (Err refusal)
+      number_told = told ∙ ap (λ (a : Result ℕ Refusal). number (verdict_of a)) is
 
-      same : ◌≡◌ {A = Outcome} (record { refusal = number answer.verdict; place = place_of answer.verdict; paths = 0; rounds = 0; messages = 0 }) (outcome call)
-      same = λ i. record { refusal = sym told i; place = sym place_told i; paths = sym nothing.paths i; rounds = sym nothing.rounds i; messages = sym nothing.messages i }
+      at_place : (outcome call).place ≡ place_of (Err refusal)
+      at_place = place_told ∙ ap (λ (a : Result ℕ Refusal). place_of (verdict_of a)) is
+
+      nothing : NothingLeft call
+      nothing = (demand_1 call).nothing_left (λ e. some_number refusal (sym number_told ∙ e))
+
+      same : ◌≡◌ {A = Outcome} (record { refusal = number (Err refusal); place = place_of (Err refusal); paths = 0; rounds = 0; messages = 0 }) (outcome call)
+      same = λ i. record { refusal = sym number_told i; place = sym at_place i; paths = sym nothing.paths i; rounds = sym nothing.rounds i; messages = sym nothing.messages i }

@@ -1,32 +1,31 @@
 -- What is answered for a text that is refused, and for a map that is surveyed. Assumes nothing.
 use mathlib.Core.Path.{◌≡◌, refl, sym, ap, ap₂, ◌∙◌}
 use mathlib.Core.Bool.{Bool, true, false, cond}
-use mathlib.Core.List.{List, [], ◌∷◌, ◌++◌}
-use Prim.Native.Nat.{ℕ, ◌-◌, ◌*◌, ◌≤◌}
+use mathlib.Core.List.{List, [], ◌∷◌}
+use Prim.Native.Nat.{ℕ, ◌*◌, ◌≤◌}
 use native.Mathlib.Decide.{ℕ_discrete}
 use native.Mathlib.Nat.{mul-le-mul_right}
 use native.Mathlib.Omega.{arith}
 use lib.Dec.{eqb}
-use lib.ListN.{length, take, replicate, length-replicate}
+use lib.ListN.{length, replicate}
 use borrow.Author.Tests.{eq-eqb, ne_eqb}
+use Rattle.std.proofs.Common.{Ok, Err}
 use Rattle.basics.specs.Lists.{InOrder}
 use Rattle.buffers.specs.Zeros.{zeros_after}
 use Rattle.site.specs.Limits.{most_radios}
 use Rattle.site.specs.Paths.{Meets}
-use Rattle.refusals.specs.Refusals.{Call, call_of, number, verdict}
+use Rattle.refusals.specs.Refusals.{Call, Verdict, call_of, number, verdict}
 use Rattle.refusals.specs.Conditions.{of_cell}
-use Rattle.refusals.specs.declared.Verdict.{Verdict}
-use Rattle.refusals.specs.declared.Verdict.TheVariants.{Accepted, Radios, TableLength, CellValue, CellMirror, Links, Ends, Wanted, Log, Lists, Records, PathList}
+use Rattle.refusals.specs.declared.Refusal.TheVariants.{Radios, TableLength, CellValue, CellMirror, Links, Ends, Wanted, Log, Lists, Records, PathList}
 use Rattle.refusals.proofs.Accepted.{accepted_room}
 use Rattle.outcome.specs.declared.Outcome.{Outcome}
 use Rattle.outcome.specs.Leaves.{paths_found, cut_found, paths_left, cut_left, outcome}
 use Rattle.path_lists.specs.Bytes.{path_bytes}
 use Rattle.demands.specs.Promise.{Promise}
 use Rattle.captures.specs.Text.{most_number}
-use Rattle.texts.proofs.Tables.{cleared}
+use Rattle.captures.specs.declared.FirstLine.{FirstLine}
 use Rattle.text_survey.specs.declared.TextFault.{TextFault}
 use Rattle.text_survey.specs.declared.TextFault.TheVariants.{TooLong, WrongShape, WrongRadios, BadLine}
-use Rattle.text_survey.specs.declared.FirstLine.{FirstLine}
 use Rattle.text_survey.specs.Survey.{log_lent, paths_lent, cut_lent, text_number, text_place, refused_for, call_for, survey_for}
 use Rattle.text_survey.specs.Delivered.{Lent, Bounded, Delivered}
 
@@ -40,14 +39,14 @@ text_number_small (BadLine line) = omega arith
 
 -- both lists were cleared
 pub told_refused : (fault : TextFault) {number place : ℕ} {paths₀ cut₀ paths cut : List ℕ} → Lent paths₀ cut₀ → text_place fault ≤ most_number → number ≡ text_number fault → place ≡ text_place fault
-    → paths ≡ take 0 paths₀ ++ replicate (length paths₀ - 0) 0 → cut ≡ take 0 cut₀ ++ replicate (length cut₀ - 0) 0
+    → paths ≡ replicate (length paths₀) 0 → cut ≡ replicate (length cut₀) 0
     → Delivered (refused_for fault) (record { capture = 0; wanted = 0; outcome = record { refusal = number; place = place; paths = 0; rounds = 0; messages = 0 } }) paths cut
 unfolding path_bytes
-told_refused fault {paths₀ = paths₀} {cut₀ = cut₀} lent small is at no-paths no_cut =
+told_refused fault lent small is at no_paths no_cut =
     record {
       numbers_are = ap₂ (λ (n p : ℕ). record { capture = 0; wanted = 0; outcome = record { refusal = n; place = p; paths = 0; rounds = 0; messages = 0 } }) is at;
-      paths_are = cleared paths₀ paths_lent no-paths lent.paths_long;
-      cut_is = cleared cut₀ cut_lent no_cut lent.cut_long;
+      paths_are = no_paths ∙ ap (λ (m : ℕ). replicate m 0) lent.paths_long;
+      cut_is = no_cut ∙ ap (λ (m : ℕ). replicate m 0) lent.cut_long;
       bounded =
           record {
             refusal = text_number_small fault;
@@ -70,23 +69,19 @@ told_refused fault {paths₀ = paths₀} {cut₀ = cut₀} lent small is at no-p
 pub few_cells : (n : ℕ) → n ≤ most_radios → n * n ≤ most_radios * most_radios
 few_cells n h = omega (arith, mul-le-mul_right n h)
 
--- and the largest table has room for them
-pub table_room : {room : List ℕ} {used : ℕ} → room ≡ replicate (most_radios * most_radios) 0 → used ≤ most_radios * most_radios → used ≤ length room
-table_room is few = omega (arith, ap length is, length-replicate {A = ℕ} (most_radios * most_radios) 0)
-
 number_small : (v : Verdict) → number v ≤ most_number
-number_small Accepted = omega arith
-number_small Radios = omega arith
-number_small TableLength = omega arith
-number_small (CellValue place) = omega arith
-number_small (CellMirror place) = omega arith
-number_small Links = omega arith
-number_small Ends = omega arith
-number_small Wanted = omega arith
-number_small Log = omega arith
-number_small Lists = omega arith
-number_small Records = omega arith
-number_small PathList = omega arith
+number_small (Ok accepted) = omega arith
+number_small (Err Radios) = omega arith
+number_small (Err TableLength) = omega arith
+number_small (Err (CellValue place)) = omega arith
+number_small (Err (CellMirror place)) = omega arith
+number_small (Err Links) = omega arith
+number_small (Err Ends) = omega arith
+number_small (Err Wanted) = omega arith
+number_small (Err Log) = omega arith
+number_small (Err Lists) = omega arith
+number_small (Err Records) = omega arith
+number_small (Err PathList) = omega arith
 
 -- two lists in order have one length
 one_length : {A B : Type 0} (R : A → B → Type 0) (list : List A) (others : List B) → InOrder R list others → length list ≡ length others

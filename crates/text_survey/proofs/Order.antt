@@ -1,58 +1,64 @@
 -- The order of the refusals of a text: what is told of it once each of them is passed. Assumes nothing.
-use mathlib.Core.Path.{◌≡◌, sym, ◌∙◌}
-use mathlib.Core.Bool.{true, false}
-use mathlib.Core.List.{List}
-use Prim.Native.Nat.{ℕ, ◌+◌, ◌≤◌, ◌<◌}
-use lib.ListN.{length, take}
-use borrow.Author.Tests.{lt-ltb, le-ltb, eq-eqb, ne_eqb}
+use mathlib.Core.Path.{◌≡◌, sym, ap, ◌∙◌}
+use mathlib.Core.Bool.{true, false, and-false}
+use mathlib.Core.List.{List, [], ◌∷◌}
+use Prim.Native.Nat.{ℕ, ◌≤◌, ◌<◌}
+use native.Mathlib.Omega.{arith}
+use lib.ListN.{length}
+use borrow.Author.Tests.{lt-ltb, le-ltb}
+use Rattle.std.proofs.Common.{Option, Some, None}
 use Rattle.refusals.specs.Refusals.{no_size}
+use Rattle.refusals.proofs.Accepted.{size_fits}
 use Rattle.captures.specs.Words.{line_feed}
 use Rattle.captures.specs.Text.{pieces}
-use Rattle.captures.specs.Capture.{head_of, wrong_line}
-use Rattle.captures.specs.Reading.{end_of}
-use Rattle.captures.specs.declared.Head.{Head}
-use Rattle.captures.specs.declared.Head.TheVariants.{Net}
-use Rattle.captures.specs.declared.Line.{Line}
-use Rattle.texts.specs.Table.{lines_from, LinesRead}
-use Rattle.texts.proofs.Lines.{Begins, begins}
+use Rattle.captures.specs.Capture.{head_of, wrong_line, fault_line}
+use Rattle.captures.specs.Reading.{Parted}
+use Rattle.captures.specs.declared.FirstLine.{FirstLine}
+use Rattle.captures.proofs.Bounds.{head_most}
+use Rattle.captures.proofs.Pieces.{rest_shorter}
+use Rattle.texts.specs.Table.{lines_said, LinesRead}
 use Rattle.text_survey.specs.declared.TextFault.TheVariants.{TooLong, WrongShape, WrongRadios, BadLine}
-use Rattle.text_survey.specs.declared.FirstLine.{FirstLine}
-use Rattle.text_survey.specs.declared.Surveyed.{Surveyed}
-use Rattle.text_survey.specs.Survey.{most_bytes, refused_for, survey_for, of_lines, of_head, survey_of}
-use Rattle.text_survey.specs.Delivered.{Delivered}
+use Rattle.text_survey.specs.Survey.{most_bytes, of_head, survey_of}
+use Rattle.text_survey.specs.Delivered.{Mapped, Faulty}
+use Rattle.text_survey.proofs.Lines.{wrong_small, fault_small}
 
-module _ {numbers : Surveyed} {paths cut : List ℕ} where
-  -- 10
-  pub told_long : (text : List ℕ) → most_bytes < length text → Delivered (refused_for TooLong) numbers paths cut → Delivered (survey_of text) numbers paths cut
+-- 10
+pub too_long : (text : List ℕ) → most_bytes < length text → Faulty text TooLong
+unfolding survey_of
+too_long text long = record { survey_is = rw (lt-ltb most_bytes (length text) long); small = omega arith }
+
+module _ (text : List ℕ) (short : length text ≤ most_bytes) where
+  -- 9
+  pub wrong_shape : {line : ℕ} → Some line ≡ wrong_line 1 (pieces line_feed text) → Faulty text (WrongShape line)
   unfolding survey_of
-  told_long text long t = rw (lt-ltb most_bytes (length text) long) t
+  wrong_shape is = record { survey_is = rw (le-ltb most_bytes (length text) short, ← is); small = wrong_small text short is }
 
-  module _ (text : List ℕ) (short : length text ≤ most_bytes) {wrong : ℕ} (is : wrong ≡ wrong_line 1 (pieces line_feed text)) where
-    -- 9
-    pub told_wrong : (wrong ≡ 0 → ⊥) → Delivered (refused_for (WrongShape wrong)) numbers paths cut → Delivered (survey_of text) numbers paths cut
-    unfolding survey_of
-    told_wrong some t = rw (le-ltb most_bytes (length text) short, ← is, ne_eqb wrong 0 some) t
+  module _ (right : None ≡ wrong_line 1 (pieces line_feed text)) where
+    -- a text of the right shape has a first line that is ended
+    pub some_line : pieces line_feed text ≡ text ∷ [] → ⊥
+    unfolding wrong_line
+    some_line whole = let z : ◌≡◌ {A = Option ℕ} None (Some 1) = right ∙ ap (wrong_line 1) whole ∙ simp and-false in cc
 
-    -- the first line, and those after it
-    pub told_right : {end : ℕ} {head said : Head} → wrong ≡ 0 → end ≡ end_of text 0 line_feed → head ≡ head_of (take end text) → head ≡ said
-        → Delivered (of_head said (lines_from text (end + 1))) numbers paths cut → Delivered (survey_of text) numbers paths cut
-    unfolding survey_of
-    told_right {end} none ends reads says t =
-        let begun : Begins text end = begins text end ends (sym is ∙ none) in
-        rw (le-ltb most_bytes (length text) short, ← is, eq-eqb wrong 0 none, begun.first, begun.others, ← reads, says) t
+    module _ {line rest : List ℕ} (cut : Parted line_feed text line rest) where
+      by_head : {said : Option FirstLine} → said ≡ head_of line → survey_of text ≡ of_head said (lines_said rest)
+      unfolding survey_of
+      by_head e = rw (le-ltb most_bytes (length text) short, ← right, cut.parted, ← e)
 
-  -- 1
-  module _ (capture n S T k : ℕ) (lines : List Line) where
-    pub told_radios : no_size n ≡ true → Delivered (refused_for WrongRadios) numbers paths cut → Delivered (of_head (Net capture n S T k) lines) numbers paths cut
-    told_radios bad t = rw bad t
+      pub no_head : None ≡ head_of line → Faulty text (WrongShape 1)
+      no_head e = record { survey_is = by_head e; small = omega arith }
 
-    pub told_between : no_size n ≡ false → Delivered (of_lines (record { capture = capture; n = n; s = S; t = T; k = k }) lines) numbers paths cut → Delivered (of_head (Net capture n S T k) lines) numbers paths cut
-    told_between fine t = rw fine t
+      module _ {first : FirstLine} (says : Some first ≡ head_of line) where
+        -- 1
+        pub wrong_radios : no_size first.n ≡ true → Faulty text WrongRadios
+        wrong_radios bad = record { survey_is = by_head says ∙ rw bad; small = omega arith }
 
-  -- 11, or the map
-  module _ (first : FirstLine) {text : List ℕ} {from : ℕ} {table : List ℕ} {bad : ℕ} (read : LinesRead text from first.n table bad) where
-    pub told_bad : (bad ≡ 0 → ⊥) → Delivered (refused_for (BadLine bad)) numbers paths cut → Delivered (of_lines first (lines_from text from)) numbers paths cut
-    told_bad some t = rw (← read.told, ne_eqb bad 0 some) t
+        module _ (fine : no_size first.n ≡ false) where
+          -- 11
+          pub bad_line : {number : ℕ} → Some number ≡ fault_line first.n 2 [] (lines_said rest) → Faulty text (BadLine number)
+          bad_line is =
+              record { survey_is = by_head says ∙ rw (fine, ← is); small = fault_small rest first.n (omega (arith, short, rest_shorter cut)) is }
 
-    pub told_good : bad ≡ 0 → Delivered (survey_for first table) numbers paths cut → Delivered (of_lines first (lines_from text from)) numbers paths cut
-    told_good none t = rw (← read.told, eq-eqb bad 0 none, ← read.filled none) t
+          -- or the map
+          pub the_map : {table : List ℕ} → LinesRead rest first.n table None → Mapped text first table
+          the_map read =
+              record { survey_is = by_head says ∙ rw (fine, ← read.told, ← read.filled); capture = head_most line first (sym says); few = (size_fits first.n fine).1 }

@@ -1,25 +1,33 @@
 -- What the contracts of this crate say of the lent lists, and what a reader of a survey may count on.
-use Rattle.std.specs.Prelude.{◌≡◌, List, [], ℕ, ◌*◌, ◌≤◌, length}
+use Rattle.std.specs.Prelude.{◌≡◌, Result, MatchResult, List, [], ℕ, ◌*◌, ◌≤◌, length}
 use Rattle.buffers.specs.Zeros.{zeros_after}
 use Rattle.site.specs.Limits.{most_radios, most_paths}
 use Rattle.message_log.specs.Bytes.{message_bytes}
 use Rattle.path_lists.specs.Bytes.{path_bytes}
 use Rattle.captures.specs.Text.{most_number}
-use Rattle.text_survey.specs.declared.FirstLine.{FirstLine}
+use Rattle.captures.specs.declared.FirstLine.{FirstLine}
+use Rattle.texts.specs.Table.{TableCells}
+use Rattle.text_survey.specs.declared.TextFault.{TextFault}
 use Rattle.text_survey.specs.declared.Surveyed.{Surveyed}
-use Rattle.text_survey.specs.Survey.{most_bytes, log_lent, paths_lent, cut_lent, TextSurvey}
+use Rattle.text_survey.specs.Survey.{log_lent, paths_lent, cut_lent, text_place, TextSurvey, refused_for, survey_for, survey_of}
 
 -- the two lists are as long as they must be
 pub record Lent (paths cut : List ℕ) : Type 0 where
   pub paths_long : length paths ≡ paths_lent
   pub cut_long : length cut ≡ cut_lent
 
--- a text that is not too long, its lines from a place on, and a first line that neither 9 nor 1 is against
-pub record Readable (text : List ℕ) (from : ℕ) (first : FirstLine) : Type 0 where
-  pub short : length text ≤ most_bytes
-  pub within : from ≤ length text
+-- the survey of a text is that of this map, or this refusal
+pub record Mapped (text : List ℕ) (first : FirstLine) (table : List ℕ) : Type 0 where
+  pub survey_is : survey_of text ≡ survey_for first table
   pub capture : first.capture ≤ most_number
   pub few : first.n ≤ most_radios
+
+pub record Faulty (text : List ℕ) (fault : TextFault) : Type 0 where
+  pub survey_is : survey_of text ≡ refused_for fault
+  pub small : text_place fault ≤ most_number
+
+abbrev pub ReadAs : List ℕ → Result (FirstLine × TableCells) TextFault → Type 0
+ReadAs text result = MatchResult result (λ said. Mapped text said.0 said.1.cells) (Faulty text)
 
 -- how large the numbers are, and how the lists go with them
 pub record Bounded (survey : TextSurvey) : Type 0 where

@@ -1,19 +1,17 @@
 -- From a text to its numbers or its refusal: document 01's order of 10, 9, 1 and 11, and then the survey of the map. What is wrong with a
 -- line stands in the specs of `captures`, Capture.antt.
-use Rattle.std.specs.Prelude.{cond, ℕ, eqb, ltb, length, get_or}
+use Rattle.std.specs.Prelude.{cond, Option, None, Some, Err, ℕ, ltb, length, get_or}
 use mathlib.Core.List.{List, [], tail}
 use Rattle.refusals.specs.Refusals.{Call, call_of, verdict, number, place_of, no_size, if_accepted}
-use Rattle.refusals.specs.declared.Verdict.TheVariants.{Radios}
+use Rattle.refusals.specs.declared.Refusal.TheVariants.{Radios}
 use Rattle.outcome.specs.Leaves.{paths_found, cut_found, outcome}
 use Rattle.captures.specs.Words.{line_feed}
 use Rattle.captures.specs.Text.{pieces}
 use Rattle.captures.specs.Capture.{head_of, wrong_line, lines_of, fault_line, table_of}
-use Rattle.captures.specs.declared.Head.{Head}
-use Rattle.captures.specs.declared.Head.TheVariants.{Net, NoNet}
+use Rattle.captures.specs.declared.FirstLine.{FirstLine}
 use Rattle.captures.specs.declared.Line.{Line}
 use Rattle.text_survey.specs.declared.TextFault.{TextFault}
 use Rattle.text_survey.specs.declared.TextFault.TheVariants.{TooLong, WrongShape, WrongRadios, BadLine}
-use Rattle.text_survey.specs.declared.FirstLine.{FirstLine}
 use Rattle.text_survey.specs.declared.Surveyed.{Surveyed}
 
 -- a text of more bytes is refused
@@ -39,13 +37,13 @@ cut_lent = 8
 abbrev pub text_number : TextFault → ℕ
 text_number TooLong = 10
 text_number (WrongShape line) = 9
-text_number WrongRadios = number Radios
+text_number WrongRadios = number (Err Radios)
 text_number (BadLine line) = 11
 
 abbrev pub text_place : TextFault → ℕ
 text_place TooLong = 0
 text_place (WrongShape line) = line
-text_place WrongRadios = place_of Radios
+text_place WrongRadios = place_of (Err Radios)
 text_place (BadLine line) = line
 
 -- ---- what a text says
@@ -79,21 +77,22 @@ survey_for first table =
       cut = if_accepted (verdict call) (cut_found call) [];
     }
 
+-- the refusal for a line, if there is one; else this survey
+abbrev pub refused_or : (ℕ → TextFault) → Option ℕ → TextSurvey → TextSurvey
+refused_or fault (Some line) survey = refused_for (fault line)
+refused_or fault None survey = survey
+
 -- 11, then what the survey says
-abbrev pub of_lines : FirstLine → List Line → TextSurvey
-of_lines first lines =
-    let bad = fault_line first.n 2 [] lines in
-    cond (eqb bad 0) (survey_for first (table_of first.n lines)) (refused_for (BadLine bad))
+abbrev pub of_lines : FirstLine → List (Option Line) → TextSurvey
+of_lines first lines = refused_or BadLine (fault_line first.n 2 [] lines) (survey_for first (table_of first.n lines))
 
 -- 1 before that
-abbrev pub of_head : Head → List Line → TextSurvey
-of_head (Net capture n S T k) lines =
-    cond (no_size n) (refused_for WrongRadios) (of_lines (record { capture = capture; n = n; s = S; t = T; k = k }) lines)
-of_head NoNet lines = refused_for (WrongShape 1)
+abbrev pub of_head : Option FirstLine → List (Option Line) → TextSurvey
+of_head (Some first) lines = cond (no_size first.n) (refused_for WrongRadios) (of_lines first lines)
+of_head None lines = refused_for (WrongShape 1)
 
 -- 10, then 9 over all lines
 unfoldable pub survey_of : List ℕ → TextSurvey
 survey_of text =
     let lines = pieces line_feed text in
-    let wrong = wrong_line 1 lines in
-    cond (ltb most_bytes (length text)) (refused_for TooLong) (cond (eqb wrong 0) (of_head (head_of (get_or lines 0 [])) (lines_of (tail lines))) (refused_for (WrongShape wrong)))
+    cond (ltb most_bytes (length text)) (refused_for TooLong) (refused_or WrongShape (wrong_line 1 lines) (of_head (head_of (get_or lines 0 [])) (lines_of (tail lines))))

@@ -1,119 +1,130 @@
 // The two passes over the text of a capture: the shape of its lines, then what they say and its table.
 #![tactic(auto)]
 
-ghost use Rattle.std.specs.Prelude.{◌≡◌, ◌+◌, ◌*◌, ◌≤◌, ◌<◌, length};
+ghost use Rattle.std.specs.Prelude.{◌≡◌, ◌+◌, ◌*◌, ◌≤◌, ◌<◌, replicate};
 ghost use Rattle.site.specs.Limits.{most_radios};
 ghost use Rattle.captures.specs.Words.{line_feed};
 ghost use Rattle.captures.specs.Text.{pieces};
 ghost use Rattle.captures.specs.Capture.{right_shape, wrong_line};
-ghost use Rattle.captures.specs.declared.Line.TheVariants.{Link, Hand};
-ghost use Rattle.texts.specs.Table.{Added, LinesRead};
+ghost use Rattle.texts.specs.Table.{Marked, Added, LinesRead};
 
-use captures::{Head, Line};
+use captures::Line;
+use std::marker::Model;
 
 // Has the line the shape that its number asks for?
 fn is_right(number: usize, line: &[u8]) -> bool
     ensures { result ≡ right_shape number line.now }
 {
     if number == 1 {
-        if let Head::NoNet = captures::head_of(line) {
-            return false;
-        }
-        return true;
-    }
-    match captures::line_of(line) {
-        Line::Link(_, _) => true,
-        Line::Hand(_) => true,
-        Line::NoRecord => false,
+        captures::head_of(line).is_some()
+    } else {
+        captures::line_of(line).is_some()
     }
 }
 
-// Refusal 9: the number of the first line of the wrong shape; 0 where there is none.
-pub fn first_wrong(text: &[u8]) -> usize
+// Refusal 9: the number of the first line of the wrong shape. Its loop and that of `fill` share their reader and no more: what a line
+// does, where the count begins and what the end means differ.
+pub fn first_wrong(text: &[u8]) -> Option<usize>
     ensures { result ≡ wrong_line 1 (pieces line_feed text.now) }
 {
     let mut number = 1;
-    let mut at = 0;
-    let mut end = captures::end_of(text, at, captures::LINE_FEED);
-    while end < text.len() {
-        if !is_right(number, &text[at..end]) {
-            return number;
+    let mut left = text;
+    while let Some((line, rest)) = captures::split_at_first(left, captures::LINE_FEED) {
+        if !is_right(number, line) {
+            return Some(number);
         }
         number += 1;
-        at = end + 1;
-        end = captures::end_of(text, at, captures::LINE_FEED);
+        left = rest;
     }
-    if at == text.len() && number != 1 {
-        return 0;
+    if left.is_empty() && number != 1 {
+        return None;
     }
-    number
+    Some(number)
 }
 
-// A link joins the table and is told to be good; one at fault leaves the table as it was. It came before exactly if its cell
-// is 1.
-fn add_link(n: usize, u: usize, v: usize, table: &mut [u8]) -> bool
-    requires { (n ≤ most_radios) × (length table.old ≡ n * n) }
-    ensures { Added n table.old (Link u v) table.new result }
-{
-    if u >= v || v >= n {
-        return false;
-    }
-    let cell = site::place(n, u, v);
-    if table[cell] == 1 {
-        return false;
-    }
-    let mirror = site::place(n, v, u);
-    table[cell] = 1;
-    table[mirror] = 1;
-    true
+// The cells of the largest table.
+const CELLS: usize = site::MOST_RADIOS * site::MOST_RADIOS;
+
+// The table of a map of n radios, which its lines fill: it has n rows of n cells, one after another.
+#[derive(Drop)]
+pub struct Table {
+    n: usize,
+    cells: [u8; CELLS],
 }
 
-// The same for a handheld. No link fills a cell on the diagonal, so it was named before exactly if its own cell is 1.
-fn add_hand(n: usize, v: usize, table: &mut [u8]) -> bool
-    requires { (n ≤ most_radios) × (length table.old ≡ n * n) }
-    ensures { Added n table.old (Hand v) table.new result }
-{
-    if v >= n {
-        return false;
-    }
-    let own = site::place(n, v, v);
-    if table[own] == 1 {
-        return false;
-    }
-    table[own] = 1;
-    true
+impl Model for Table {
+    ghost use Rattle.std.specs.Prelude.{◌*◌, ◌≤◌, take};
+    ghost use Rattle.site.specs.Limits.{most_radios};
+    ghost use Rattle.texts.specs.Table.{TableCells};
+
+    ghost Value = { TableCells };
+
+    ghost view = { λ t. record { n = t.n; cells = take (t.n * t.n) t.cells } };
+
+    ghost invariant = { λ t. t.n ≤ most_radios };
 }
 
-// What a line says joins the table.
-fn add_line(n: usize, line: Line, table: &mut [u8]) -> bool
-    requires { (n ≤ most_radios) × (length table.old ≡ n * n) }
-    ensures { Added n table.old line table.new result }
-{
-    match line {
-        Line::Link(u, v) => add_link(n, u, v, table),
-        Line::Hand(v) => add_hand(n, v, table),
-        Line::NoRecord => true,
-    }
-}
-
-// Refusal 11: the number of the first line at fault; 0 where there is none. The table is left with all lines, or with those
-// before the one at fault. The lines after the first begin at `from`.
-pub fn fill_table(text: &[u8], from: usize, n: usize, table: &mut [u8]) -> usize
-    requires { (from ≤ length text.now) × (n ≤ most_radios) × (length table.old ≡ n * n) }
-    ensures { LinesRead text.now from n table.new result }
-{
-    buffers::clear_from(table, 0);
-    let mut number = 2;
-    let mut at = from;
-    let mut end = captures::end_of(text, at, captures::LINE_FEED);
-    while end < text.len() {
-        let line = captures::line_of(&text[at..end]);
-        if !add_line(n, line, table) {
-            return number;
+impl Table {
+    // No line has filled it.
+    pub fn empty(n: usize) -> Table
+        requires { n ≤ most_radios }
+        ensures { result ≡ record { n = n; cells = replicate (n * n) 0 } }
+    {
+        Table {
+            n,
+            cells: [0; CELLS],
         }
-        number += 1;
-        at = end + 1;
-        end = captures::end_of(text, at, captures::LINE_FEED);
     }
-    0
+
+    // Its cells, row after row.
+    pub fn cells(&self) -> &[u8]
+        ensures { result.now ≡ self.now.cells }
+    {
+        &self.cells[..self.n * self.n]
+    }
+
+    // Both cells of two radios become 1, and that is told; unless they were 1 before.
+    fn mark(&mut self, u: usize, v: usize) -> bool
+        requires { (u < self.old.n) × (v < self.old.n) }
+        ensures { (self.new.n ≡ self.old.n) × Marked self.old.n u v self.old.cells self.new.cells result }
+    {
+        let cell = site::place(self.n, u, v);
+        if self.cells[cell] == 1 {
+            return false;
+        }
+        let mirror = site::place(self.n, v, u);
+        self.cells[cell] = 1;
+        self.cells[mirror] = 1;
+        true
+    }
+
+    // What a line says joins the table and is told to be good; where it is at fault the table stays as it was. No link fills a
+    // cell on the diagonal, so a handheld was named before exactly if its own cell is 1.
+    fn add_line(&mut self, line: Option<Line>) -> bool
+        ensures { (self.new.n ≡ self.old.n) × Added self.old.n self.old.cells line self.new.cells result }
+    {
+        match line {
+            Some(Line::Link(u, v)) => u < v && v < self.n && self.mark(u, v),
+            Some(Line::Hand(v)) => v < self.n && self.mark(v, v),
+            None => true,
+        }
+    }
+
+    // Refusal 11: the number of the first line at fault, of lines of which the first is line 2. The table is left with all of
+    // them, or with those before the one at fault.
+    pub fn fill(&mut self, lines: &[u8]) -> Option<usize>
+        ensures { (self.new.n ≡ self.old.n) × LinesRead lines.now self.old.n self.new.cells result }
+    {
+        self.cells.fill(0);
+        let mut number = 2;
+        let mut left = lines;
+        while let Some((line, rest)) = captures::split_at_first(left, captures::LINE_FEED) {
+            if !self.add_line(captures::line_of(line)) {
+                return Some(number);
+            }
+            number += 1;
+            left = rest;
+        }
+        None
+    }
 }

@@ -4,33 +4,35 @@
 ghost use Rattle.std.specs.Prelude.{◌≡◌};
 ghost use Rattle.tokens.specs.Rules.{message};
 
-// The four kinds of message.
-#[derive(Clone, Copy)]
+// The four kinds of message, each with its number in the log.
+#[derive(Clone, Copy, Debug, PartialEq, Eq)]
 pub enum Kind {
-    Pdt,
-    PdtB,
-    Pmt,
-    Done,
+    Pdt = 1,
+    PdtB = 2,
+    Pmt = 3,
+    Done = 4,
 }
 
 // A message with its two ends: the half that sends it and the half that receives it.
-#[derive(Clone, Copy)]
+#[derive(Clone, Copy, Debug, PartialEq, Eq)]
 pub struct Message {
     pub kind: Kind,
     pub from: usize,
     pub to: usize,
 }
 
-// One inner step sends a message, or finds that the run is over.
-#[derive(Clone, Copy)]
+impl Message {
+    // A message of this kind from one half to another.
+    pub fn new(kind: Kind, from: usize, to: usize) -> Message
+        ensures { result ≡ message kind from to }
+    {
+        Message { kind, from, to }
+    }
+}
+
+// One inner step sends a message, or finds that the run is over. It is no Option: the rules name the two answers of a step.
+#[derive(Clone, Copy, Debug, PartialEq, Eq)]
 pub enum Answer {
     Sent(Message),
     End,
-}
-
-// A message of this kind from one half to another.
-pub fn telling(kind: Kind, from: usize, to: usize) -> Message
-    ensures { result ≡ message kind from to }
-{
-    Message { kind, from, to }
 }

@@ -10,6 +10,7 @@ use native.Mathlib.Omega.{arith}
 use lib.Dec.{eqb}
 use lib.ListN.{get_or}
 use borrow.Author.Tests.{eq-eqb, eqb-true}
+use Rattle.std.proofs.Common.{Option, None, Some, is_some}
 use Rattle.basics.specs.Lists.{All}
 use Rattle.basics.proofs.Bools.{both_ways, or_left, or_right, or_cases}
 use Rattle.basics.specs.Numbered.{Conditions, Gives, NoneHolds}
@@ -22,7 +23,7 @@ use Rattle.site.proofs.Formula.{few_steps}
 use Rattle.refusals.proofs.Exactly.{call_exact}
 use Rattle.refusals.proofs.Accepted.{SoundMap, sound_map, GoodPair, good_pair}
 use Rattle.outcome.specs.Leaves.{outcome}
-use Rattle.captures.specs.Capture.{is_record, at_fault, fault_line, table_of}
+use Rattle.captures.specs.Capture.{at_fault, fault_line, table_of}
 use Rattle.captures.specs.declared.Line.{Line}
 use Rattle.text_survey.specs.Survey.{log_lent, paths_lent, cut_lent}
 use Rattle.captures.proofs.Cells.{is_cell, cell_of, mirror_of, Ordered, own_in, cells_are, mirror_in, mirror_back, good_ordered}
@@ -31,34 +32,34 @@ use Rattle.written.proofs.Tables.{in_cells, all_there, cell_in, cell-of, cell_re
 -- ---- 3 and 13: the table of good lines has no bad cell
 
 -- where no line is at fault all are in order
-all_ordered : (n number : ℕ) (before lines : List Line) → fault_line n (suc number) before lines ≡ 0 → All (Ordered n) lines
+all_ordered : (n number : ℕ) (before lines : List (Option Line)) → fault_line n (suc number) before lines ≡ None → All (Ordered n) lines
 unfolding fault_line
 all_ordered n number before [] e = tt
 all_ordered n number before (line ∷ lines) e = go (at_fault n before line) refl e (all_ordered n (suc number) (line ∷ before) lines)
   where
-    go : (b : Bool) → at_fault n before line ≡ b → cond b (suc number) (fault_line n (suc (suc number)) (line ∷ before) lines) ≡ 0
-        → (fault_line n (suc (suc number)) (line ∷ before) lines ≡ 0 → All (Ordered n) lines) → Ordered n line × All (Ordered n) lines
-    go true is z rest = absurd (omega arith)
+    go : (b : Bool) → at_fault n before line ≡ b → cond b (Some (suc number)) (fault_line n (suc (suc number)) (line ∷ before) lines) ≡ None
+        → (fault_line n (suc (suc number)) (line ∷ before) lines ≡ None → All (Ordered n) lines) → Ordered n line × All (Ordered n) lines
+    go true is z rest = absurd (cc)
     go false is z rest = (good_ordered n before line is, rest z)
 
 -- the mirror of a line's cell is its cell too
-cell_mirror : (n : ℕ) (line : Line) (place : ℕ) → 0 < n → Ordered n line → is_cell n place line ≡ true → is_cell n (mirror_of n place) line ≡ true
+cell_mirror : (n : ℕ) (line : Option Line) (place : ℕ) → 0 < n → Ordered n line → is_cell n place line ≡ true → is_cell n (mirror_of n place) line ≡ true
 cell_mirror n line place some ord c = cells_are n line (mirror_of n place) is ord ∙ go (or_cases (eqb place own) (eqb place (mirror_of n own)) (sym (cells_are n line place is ord) ∙ c))
   where
     own : ℕ
     own = cell_of n line
 
-    is : is_record line ≡ true
+    is : is_some line ≡ true
     is = cell_record n place line c
 
     go : (eqb place own ≡ true) ⊎ (eqb place (mirror_of n own) ≡ true) → (eqb (mirror_of n place) own || eqb (mirror_of n place) (mirror_of n own)) ≡ true
     go (inl e) = or_right (eqb (mirror_of n place) own) (eqb (mirror_of n place) (mirror_of n own)) (eq-eqb _ _ (ap (mirror_of n) (eqb-true _ _ e)))
     go (inr e) = or_left (eqb (mirror_of n place) own) (eqb (mirror_of n place) (mirror_of n own)) (eq-eqb _ _ (ap (mirror_of n) (eqb-true _ _ e) ∙ mirror_back n own (own_in n line is ord) some))
 
-no_fault : (n : ℕ) (lines : List Line) → All (Ordered n) lines → 0 < n → (place : ℕ) → place < n * n → Fault (table_of n lines) n place → ⊥
+no_fault : (n : ℕ) (lines : List (Option Line)) → All (Ordered n) lines → 0 < n → (place : ℕ) → place < n * n → Fault (table_of n lines) n place → ⊥
 no_fault n lines ord some place p = go (in_cells n place lines) refl
   where
-    of : (line : Line) → Memᴰ line lines → Ordered n line
+    of : (line : Option Line) → Memᴰ line lines → Ordered n line
     of = all_there (Ordered n) lines ord
 
     mirror_too : (q : ℕ) → in_cells n q lines ≡ true → in_cells n (mirror_of n q) lines ≡ true
@@ -78,11 +79,11 @@ no_fault n lines ord some place p = go (in_cells n place lines) refl
 -- ---- the refusals that are left
 
 -- the call that `of_lines` makes, with the lent lengths
-abbrev lent_call : ℕ → ℕ → ℕ → ℕ → List Line → Call
+abbrev lent_call : ℕ → ℕ → ℕ → ℕ → List (Option Line) → Call
 lent_call n S T k lines = call_of n (table_of n lines) S T k log_lent paths_lent cut_lent
 
 -- `of_head` comes to it where refusals 1 and 11 are not against the text
-module _ (n S T k : ℕ) (lines : List Line) (two : 2 ≤ n) (most : n ≤ most_radios) (good : fault_line n 2 [] lines ≡ 0) where
+module _ (n S T k : ℕ) (lines : List (Option Line)) (two : 2 ≤ n) (most : n ≤ most_radios) (good : fault_line n 2 [] lines ≡ None) where
   sound : (place : ℕ) → place < n * n → Fault (table_of n lines) n place → ⊥
   sound = no_fault n lines (all_ordered n 1 [] lines good) (omega arith)
 

@@ -1,31 +1,28 @@
 -- `captures::line_of` meets its contract. Assumes nothing.
-use mathlib.Core.Path.{sym, ◌∙◌}
-use native.Mathlib.Omega.{arith}
-use lib.Seq.{length-take-le}
-use Rattle.captures.specs.Words.{tab}
-use Rattle.captures.proofs.Pieces.{end_between}
-use Rattle.captures.proofs.Shapes.{line_link, line_hand, line_none}
+use mathlib.Core.Path.{sym, ap, ◌∙◌}
+use Rattle.std.proofs.Common.{option_map}
+use Rattle.captures.specs.Words.{link, hand}
+use Rattle.captures.proofs.Shapes.{link_of, hand_of, word_is, word_is_not, line_whole, line_link, line_hand, line_other}
 use Rattle.captures.proofs.line_of.Goals as goal
 
-pub slice_bounds-is_word-end : goal.slice_bounds-is_word-end
-slice_bounds-is_word-end c = sym (length-take-le _ _ (end_between tab c.args.line.now 0 c.end_of-end.result (omega arith) c.end_of-end.ensures).1)
+pub returns-in_err-word : goal.returns-in_err-word
+returns-in_err-word c = c.from_residual.ensures ∙ sym (line_whole _ c.in_err-word.ensures)
 
-pub overflow_add-end : goal.overflow_add-end
-overflow_add-end c = omega (arith, (end_between tab c.args.line.now 0 c.end_of-end.result (omega arith) c.end_of-end.ensures).1)
+pub returns-in_err-u : goal.returns-in_err-u
+returns-in_err-u c = let is = word_is _ link c.as_slice.ensures (sym c.eq.ensures ∙ c.if-eq.true) in
+    c.from_residual-in_err-u.ensures ∙ sym (line_link c.in_ok-word.ensures is ∙ ap (option_map link_of) (sym c.in_err-u.ensures))
 
-pub returns-then-is_word : goal.returns-then-is_word
-returns-then-is_word c = c.after_link.ensures
-    ∙ sym (line_link _ _ c.end_of-end.ensures (sym c.is_word.ensures ∙ c.if-is_word.true))
+pub returns-then-eq : goal.returns-then-eq
+returns-then-eq c = let is = word_is _ link c.as_slice.ensures (sym c.eq.ensures ∙ c.if-eq.true) in
+    sym (line_link c.in_ok-word.ensures is ∙ ap (option_map link_of) (sym c.in_ok-u.ensures))
 
-pub slice_bounds-is_word-end-3 : goal.slice_bounds-is_word-end-3
-slice_bounds-is_word-end-3 c = sym (length-take-le _ _ (end_between tab c.args.line.now 0 c.end_of-end.result (omega arith) c.end_of-end.ensures).1)
+pub returns-in_err-v : goal.returns-in_err-v
+returns-in_err-v c = let is = word_is _ hand c.as_slice-2.ensures (sym c.eq-2.ensures ∙ c.if-eq-2.true) in
+    c.from_residual-in_err-v.ensures ∙ sym (line_hand c.in_ok-word.ensures is ∙ ap (option_map hand_of) (sym c.in_err-v.ensures))
 
-pub overflow_add-end-then-is_word-2 : goal.overflow_add-end-then-is_word-2
-overflow_add-end-then-is_word-2 c = omega (arith, (end_between tab c.args.line.now 0 c.end_of-end.result (omega arith) c.end_of-end.ensures).1)
-
-pub returns-then-is_word-2 : goal.returns-then-is_word-2
-returns-then-is_word-2 c = c.after_hand.ensures
-    ∙ sym (line_hand _ _ c.end_of-end.ensures (sym c.is_word.ensures ∙ c.if-is_word.false) (sym c.is_word-2.ensures ∙ c.if-is_word-2.true))
+pub returns-then-eq-2 : goal.returns-then-eq-2
+returns-then-eq-2 c = let is = word_is _ hand c.as_slice-2.ensures (sym c.eq-2.ensures ∙ c.if-eq-2.true) in
+    sym (line_hand c.in_ok-word.ensures is ∙ ap (option_map hand_of) (sym c.in_ok-v.ensures))
 
 pub returns : goal.returns
-returns c = sym (line_none _ _ c.end_of-end.ensures (sym c.is_word.ensures ∙ c.if-is_word.false) (sym c.is_word-2.ensures ∙ c.if-is_word-2.false))
+returns c = sym (line_other c.in_ok-word.ensures (word_is_not _ link c.as_slice.ensures (sym c.eq.ensures ∙ c.if-eq.false)) (word_is_not _ hand c.as_slice-2.ensures (sym c.eq-2.ensures ∙ c.if-eq-2.false)))

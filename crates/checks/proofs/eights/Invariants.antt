@@ -1,7 +1,8 @@
--- `checks::eights` meets its contract. The loop's invariant: the eights passed are the row's. Assumes nothing.
+-- `checks::eights` meets its contract. The loop's invariant: the eights passed are in the set. Assumes nothing.
 use Prim.Native.Nat.{◌*◌, ◌≤◌}
-use Rattle.checks.proofs.Gathering.{RowSoFar}
+use Rattle.radios.specs.Bytes.{is_one}
+use Rattle.checks.proofs.Gathering.{SoFar}
 use Rattle.checks.proofs.eights.Given as goal
 
 abbrev pub invariant-loop-k : goal.invariant-loop-k
-invariant-loop-k l = (l.k ≤ l.k-end) × RowSoFar l.table l.start (8 * l.k) l.row
+invariant-loop-k l = (l.k ≤ l.k-end) × SoFar (is_one l.row) (8 * l.k) l.set

@@ -1,20 +1,26 @@
 -- `checks::total_of_rows` meets its contract. Assumes nothing.
-use mathlib.Core.Path.{refl}
+use mathlib.Core.Path.{◌≡◌, refl}
 use native.Mathlib.Omega.{arith}
-use lib.ListN.{get_or}
 use Rattle.basics.specs.Counting.{sum}
 use Rattle.radios.proofs.Counting.{count-le}
 use Rattle.site.specs.Limits.{most_radios}
 use Rattle.checks.specs.Checked.{size}
-use Rattle.checks.proofs.Sizes.{sum_more}
+use Rattle.checks.proofs.Sizes.{size_read_of, sum_more}
 use Rattle.checks.proofs.total_of_rows.Goals as goal
+use Rattle.checks.proofs.total_of_rows.Goals.{After-count-total}
 
-pub loop-u-init : goal.loop-u-init
+pub loop-row-init : goal.loop-row-init
 unfolding sum
-loop-u-init c = (omega arith, refl, omega arith)
+loop-row-init c = (refl, omega arith)
+
+-- the row that is read adds its size
+added : (c : After-count-total) → c.count-total.result ≡ size c.args.rows.now c.loop-row.row-index
+added c = size_read_of c.args.rows.now c.args.n c.loop-row.row-index c.row-item.result _ c.count-total.ensures c.row-item.is c.loop-row-test.true
 
 pub overflow_add-total : goal.overflow_add-total
-overflow_add-total c = omega (arith, count-le most_radios (get_or c.args.rows.now c.loop-u.u 0))
+overflow_add-total c = omega (arith, c.count-total.ensures, count-le most_radios c.row-item.result)
 
-pub loop-u-preserved : goal.loop-u-preserved
-loop-u-preserved c = (omega arith, omega (arith, sum_more (size c.args.rows.now) c.loop-u.u), omega (arith, count-le most_radios (get_or c.args.rows.now c.loop-u.u 0)))
+pub loop-row-preserved : goal.loop-row-preserved
+loop-row-preserved c =
+    let more = added (goal.at.loop-row-preserved c).After-count-total in
+    (omega (arith, more, sum_more (size c.args.rows.now) c.loop-row.row-index), omega (arith, c.count-total.ensures, count-le most_radios c.row-item.result))

@@ -6,5 +6,5 @@ use Rattle.site.specs.Limits.{most_radios}
 use Rattle.checks.specs.Checked.{size}
 use Rattle.checks.proofs.total_of_rows.Given as goal
 
-abbrev pub invariant-loop-u : goal.invariant-loop-u
-invariant-loop-u l = (l.u ≤ l.n) × (l.total ≡ sum (size l.rows) l.u) × (l.total ≤ most_radios * l.u)
+abbrev pub invariant-loop-row : goal.invariant-loop-row
+invariant-loop-row l = (l.total ≡ sum (size l.rows) l.row-index) × (l.total ≤ most_radios * l.row-index)

@@ -1,45 +1,48 @@
 -- `cut::write_cut` meets its contract. Assumes nothing.
-use mathlib.Core.Path.{refl, ap, ◌∙◌}
-use mathlib.Core.List.{List, []}
+use mathlib.Core.Path.{◌≡◌, refl, sym, ap, ◌∙◌}
+use mathlib.Core.List.{List, [], ◌++◌}
 use Prim.Native.Nat.{ℕ}
 use native.Mathlib.Omega.{arith}
-use lib.ListN.{length-set}
+use lib.ListN.{take, drop, length-take}
+use lib.Seq.{take_all}
 use Rattle.basics.proofs.Lists.{all_at}
-use Rattle.tokens.specs.Run.{item_of}
+use Rattle.tokens.specs.Run.{item_of, cut_of}
 use Rattle.path_lists.specs.Bytes.{Holds}
 use Rattle.path_lists.proofs.Walking.{at_front, Stands, path_inside, path_stands}
 use Rattle.halves.specs.Bytes.{entered_of}
 use Rattle.cut.specs.Cut.{Radios}
 use Rattle.cut.proofs.Cutting.{one_more_item}
 use Rattle.cut.proofs.write_cut.Goals as goal
-use Rattle.cut.proofs.write_cut.Goals.{After-part_at-part}
+use Rattle.cut.proofs.write_cut.Goals.{After-path_at-path}
 
 -- the path that the loop has come to
-stands : (c : After-part_at-part) (ps : List (List ℕ)) → Holds c.args.paths.now c.args.count ps → Stands c.args.paths.now ps c.loop-i.i c.part_at-part.result
-stands c ps held = path_stands held c.loop-i.i c.loop-i.at c.loop-i-test.true (c.loop-i.invariant.2 ps held) c.part_at-part.ensures
+stands : (c : After-path_at-path) (ps : List (List ℕ)) → Holds c.args.paths.now c.args.count ps → Stands c.args.paths.now ps c.loop-item.item-index c.loop-item.at c.path_at-path.result.now
+stands c ps held = path_stands held c.loop-item.item-index c.loop-item.at (omega (arith, length-take {A = ℕ})) (c.loop-item.invariant.placed ps held) c.path_at-path.ensures.radios
 
-pub loop-i-init : goal.loop-i-init
-loop-i-init c = (omega arith, refl, λ ps held. at_front ps, λ site ps e held. refl)
+pub loop-item-init : goal.loop-item-init
+loop-item-init c = record { placed = λ ps held. at_front ps; written = λ site ps e held. refl }
 
-pub part_at-part-requires : goal.part_at-part-requires
-part_at-part-requires c = path_inside c.requires.held c.loop-i.i c.loop-i.at c.loop-i-test.true (c.loop-i.invariant.2 c.requires.paths c.requires.held)
-
-pub slice_bounds-cut_item-end : goal.slice_bounds-cut_item-end
-slice_bounds-cut_item-end c =
-    let known = stands (goal.at.slice_bounds-cut_item-end c).After-part_at-part c.requires.paths c.requires.held in
-    omega arith
+pub path_at-path-requires : goal.path_at-path-requires
+path_at-path-requires c = path_inside c.requires.held c.loop-item.item-index c.loop-item.at (omega (arith, length-take {A = ℕ})) (c.loop-item.invariant.placed c.requires.paths c.requires.held)
 
 pub cut_item-requires : goal.cut_item-requires
 cut_item-requires c =
-    let known = stands (goal.at.cut_item-requires c).After-part_at-part c.requires.paths c.requires.held in
-    rw known.radios (all_at Radios c.requires.paths c.loop-i.i [] c.requires.radios (omega (arith, c.requires.held.number)))
+    let p = c.requires in
+    rw (stands c p.paths p.held).radios (all_at Radios p.paths c.loop-item.item-index [] p.radios (omega (arith, p.held.number, length-take {A = ℕ})))
 
-pub loop-i-preserved : goal.loop-i-preserved
-loop-i-preserved c =
-    let known = stands (goal.at.loop-i-preserved c).After-part_at-part in (
-      omega arith,
-      length-set c.loop-i.cut c.loop-i.i _ ∙ c.loop-i.invariant.1,
-      λ ps held. (known ps held).next,
-      λ site ps e held. one_more_item site _ ps c.args.cut.now c.loop-i.cut c.loop-i.i _ (omega (arith, held.number)) (omega arith) (c.loop-i.invariant.3 site ps e held)
-          (c.cut_item.ensures site e ∙ ap (item_of site (entered_of c.args.entered.now)) (known ps held).radios),
-    )
+pub loop-item-preserved : goal.loop-item-preserved
+loop-item-preserved c =
+    let l = c.loop-item in
+    let known = stands (goal.at.loop-item-preserved c).After-path_at-path in
+    record {
+      placed = λ ps held. omega (arith, (known ps held).next);
+      written = λ site ps e held. one_more_item site _ ps l.item-items l.item-index _ (omega (arith, held.number, length-take {A = ℕ})) (omega arith) (l.invariant.written site ps e held)
+          (c.cut_item.ensures site e ∙ ap (item_of site (entered_of c.args.entered.now)) (known ps held).radios);
+    }
+
+pub returns : goal.returns
+returns c = λ site ps e held.
+    let l = c.loop-item in
+    let items : take l.item-index l.item-items ≡ l.item-items = take_all l.item-index l.item-items (omega arith) in
+    let all : take l.item-index ps ≡ ps = take_all l.item-index ps (omega (arith, held.number, length-take {A = ℕ}, c.requires.room)) in
+    ap (λ (front : List ℕ). front ++ drop c.args.count c.args.cut.now) (sym items ∙ l.invariant.written site ps e held ∙ ap (cut_of site (entered_of c.args.entered.now)) all)

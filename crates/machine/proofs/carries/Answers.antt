@@ -9,27 +9,37 @@ use Rattle.machine.specs.declared.Stage.{Stage}
 use Rattle.machine.specs.declared.Stage.TheVariants.{Carrying}
 use Rattle.machine.specs.View.{moved_to, marks_of}
 use Rattle.machine.proofs.Stages.{sane_in}
-use Rattle.machine.proofs.Replies.{carrying_releases, carrying_passes, carrying_inside}
+use Rattle.machine.proofs.Replies.{carrying_releases, carrying_passes, carrying_inside, passed, not_passed}
 use Rattle.machine.proofs.carries.Goals as goal
 
 pub returns-then-h-task : goal.returns-then-h-task
-returns-then-h-task c = λ entered halves plan place ready.
-    carrying_releases ready c.requires.0 c.if-h-task.true c.releases.result (c.releases.ensures plan place entered halves ready.made ready.walks ready.untried)
+returns-then-h-task c = λ plan place ready.
+    carrying_releases ready c.requires.0 c.if-h-task.true c.releases.result (c.releases.ensures plan place ready.made ready.walks ready.untried)
 
-pub returns-then-h-eq1 : goal.returns-then-h-eq1
-returns-then-h-eq1 c = λ entered halves plan place ready.
+pub returns-in-Some : goal.returns-in-Some
+returns-in-Some c = λ plan place ready.
     let at = c.args in
     let site = plan.site in
     let is : out_half (at.machine.half / 2) ≡ at.machine.half = omega arith in
     let sane = sane_in ready Carrying c.requires.0 in
-    let next = c.next_marked-w in
-    carrying_passes ready c.requires.0 c.if-h-task.false c.if-h-eq1.true next.result
-    (ap (λ (h : ℕ). next_marked site (marks_of site at.rows.now) h 0) (sym is)
-    ∙ next.ensures site (marks_of site at.rows.now) (omega (arith, ready.made.radios, ready.made.fits.few)) (omega arith) ready.made.source (λ e. sane.3 (omega arith)) ready.made.linked (on_told site at.rows.now) ready.walks)
-    c.pass_on.result (c.pass_on.ensures site place at.rows.now entered halves ready.made.radios ready.untried)
+    let next = c.in-Some.ensures.next site (marks_of site at.board.now.rows) (omega (arith, ready.made.radios, ready.made.fits.few)) (omega arith) ready.made.source (λ e. sane.3 (omega arith)) ready.made.linked (on_told site at.board.now.rows) ready.walks in
+    carrying_passes ready c.requires.0 c.if-h-task.false c.if-h-eq1.true c.in-Some.w
+    (ap (λ (h : ℕ). next_marked site (marks_of site at.board.now.rows) h 0) (sym is) ∙ next.next)
+    c.pass_on.result (passed site at.machine _ at.board.now _ _ c.in-Some.w _ next.a_radio c.pass_on.ensures)
+
+pub returns-in-None : goal.returns-in-None
+returns-in-None c = λ plan place ready.
+    let at = c.args in
+    let site = plan.site in
+    let is : out_half (at.machine.half / 2) ≡ at.machine.half = omega arith in
+    let sane = sane_in ready Carrying c.requires.0 in
+    let next = c.in-None.ensures.next site (marks_of site at.board.now.rows) (omega (arith, ready.made.radios, ready.made.fits.few)) (omega arith) ready.made.source (λ e. sane.3 (omega arith)) ready.made.linked (on_told site at.board.now.rows) ready.walks in
+    carrying_passes ready c.requires.0 c.if-h-task.false c.if-h-eq1.true site.n
+    (ap (λ (h : ℕ). next_marked site (marks_of site at.board.now.rows) h 0) (sym is) ∙ next.next)
+    c.over.result (not_passed site at.machine _ at.board.now _ _ place c.over.ensures ready.untried)
 
 pub returns : goal.returns
-returns c = λ entered halves plan place ready.
+returns c = λ plan place ready.
     let m = c.args.machine in
     carrying_inside ready c.requires.0 c.if-h-task.false c.if-h-eq1.false c.sent.result _ m.left
     (ap (λ (s : Stage). moved_to m s (m.half + 1) m.other m.left m.depth) c.requires.0) c.sent.ensures

@@ -9,10 +9,10 @@ use Rattle.machine.proofs.searches.Goals as goal
 pub returns-then-machine-eq0-clause-steps : goal.returns-then-machine-eq0-clause-steps
 returns-then-machine-eq0-clause-steps c = λ plan place ready.
     searching_fails ready c.requires.0 (eqb-true _ _ (sym c.is_empty.ensures ∙ c.if-is_empty.true)) c.releases.result c.if-machine-eq0.true
-    (c.releases.ensures plan place c.args.entered.now c.args.halves.now ready.made ready.walks ready.untried)
+    (c.releases.ensures plan place ready.made ready.walks ready.untried)
 
 pub returns-then-is_empty-clause-steps : goal.returns-then-is_empty-clause-steps
-returns-then-is_empty-clause-steps c = c.gives_up.ensures c.args.task c.args.links.now c.args.entered.now
+returns-then-is_empty-clause-steps c = c.gives_up.ensures c.args.task.now c.args.links.now
 
 pub next-y-requires : goal.next-y-requires
 next-y-requires c =
@@ -27,14 +27,14 @@ receives-there-requires c =
 pub returns-clause-steps : goal.returns-clause-steps
 returns-clause-steps c = λ plan place ready.
     let at = c.args in
-    let marks = marks_of plan.site at.rows.now in
+    let marks = marks_of plan.site at.board.now.rows in
     let y = c.next-y.result in
     let asked = c.next-y.ensures in
     let there = c.receives-there in
     let top = search_top ready c.requires.0 in
     let untried = search_untried ready c.requires.0 in
     let next = asked.next plan marks place ready.made.order top.half untried in
-    searching_asks ready c.requires.0 _ next c.sent.result y c.without.result there.result there.new.entered there.new.halves asked.across_it
+    searching_asks ready c.requires.0 _ next c.sent.result y c.without.result there.result there.new.board asked.across_it
     (there.ensures plan.site ready.made.sink ready.walks
     (untried_once_asked plan marks at.machine.half place _ at.machine.left y _ ready.made.order top.half untried next asked.across_it c.without.ensures))
     c.sent.ensures

@@ -5,7 +5,7 @@ use Rattle.openings.proofs.Order.{after_own, after_other}
 use Rattle.openings.proofs.after.Goals as goal
 
 pub returns-then-v-u : goal.returns-then-v-u
-returns-then-v-u c = λ site marks below is j. member-empty j ∙ after_own site marks _ _ _ below is c.if-v-u.true j
+returns-then-v-u c = λ site marks below is j. rw c.none.ensures (member-empty j) ∙ after_own site marks _ _ _ below is c.if-v-u.true j
 
 pub returns : goal.returns
 returns c = λ site marks below is j.

@@ -7,4 +7,4 @@ use Rattle.openings.proofs.Start.{FilledTo}
 use Rattle.openings.proofs.fill.Given as goal
 
 abbrev pub invariant-loop-u : goal.invariant-loop-u
-invariant-loop-u l = (site : Site) → site.n ≡ l.n → site.S ≡ l.s → site.T ≡ l.t → Passing site l.passing → RowsOfLinks site.table site.n l.links → FilledTo site l.all (2 * l.u)
+invariant-loop-u l = (site : Site) → site.n ≡ l.n → site.S ≡ l.s → site.T ≡ l.t → Passing site l.passing → RowsOfLinks site.table site.n l.links → FilledTo site l.rows (2 * l.u)

@@ -5,7 +5,7 @@ use Rattle.radios.proofs.Laws.{member-empty}
 use Rattle.openings.proofs.inside.Goals as goal
 
 pub returns-then-not-has : goal.returns-then-not-has
-returns-then-not-has c = λ v. member-empty v ∙ sym (simp (sym c.if-not-has.ensures, and-false))
+returns-then-not-has c = λ v. rw c.none.ensures (member-empty v ∙ sym (simp (sym c.if-not-has.ensures, and-false)))
 
 pub returns : goal.returns
-returns c = λ v. c.with.ensures v ∙ simp (member-empty v, sym c.if-not-has.ensures, and-true, or-false)
+returns c = λ v. c.with.ensures v ∙ rw c.none-2.ensures (simp (member-empty v, sym c.if-not-has.ensures, and-true, or-false))

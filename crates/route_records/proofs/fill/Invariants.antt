@@ -1,11 +1,8 @@
--- The invariant of `route_records::fill`'s loop, that the first v records are set and the others stay, and its measure.
+-- The invariant of `route_records::fill`'s loop: the first v records are set and the others stay.
 use mathlib.Core.Path.{◌≡◌}
-use Prim.Native.Nat.{◌-◌, ◌≤◌}
-use Rattle.route_records.proofs.Filled.{filled}
+use mathlib.Core.List.{◌++◌}
+use lib.ListN.{take, drop}
 use Rattle.route_records.proofs.fill.Given as goal
 
 abbrev pub invariant-loop-v : goal.invariant-loop-v
-invariant-loop-v l = (l.v ≤ l.n) × (l.routes ≡ filled l.fields l.initial.routes l.v)
-
-abbrev pub decreases-loop-v : goal.decreases-loop-v
-decreases-loop-v l = l.n - l.v
+invariant-loop-v l = l.routes ≡ take l.v l.records ++ drop l.v l.initial.routes

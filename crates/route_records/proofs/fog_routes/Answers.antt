@@ -1,16 +1,26 @@
 -- `route_records::fog_routes` meets its contract. Assumes nothing.
+use mathlib.Core.Path.{sym}
 use native.Mathlib.Omega.{arith}
-use Rattle.route_records.proofs.Promised.{tellable, fits, promised}
+use lib.Seq.{length-take-le}
+use Rattle.route_records.proofs.Promised.{promised_refused, in_order, tellable, enough, promised_accepted}
 use Rattle.route_records.proofs.fog_routes.Goals as goal
 
-pub fields_of-fields-requires : goal.fields_of-fields-requires
-fields_of-fields-requires c = tellable _ _ _ _ _ c.refusal_of-refusal.ensures
+pub returns-in-Err : goal.returns-in-Err
+returns-in-Err c = promised_refused _ c.judge.ensures c.in-Err.is c.number.ensures
 
-pub fill-requires-clause-n_in_bounds : goal.fill-requires-clause-n_in_bounds
-fill-requires-clause-n_in_bounds c = (fits _ _ _ _ _ _ c.refusal_of-refusal.ensures c.to_fill-filled.ensures).0
+pub records_of-records-requires : goal.records_of-records-requires
+records_of-records-requires c = tellable (in_order c.judge.ensures c.in_default.is)
 
-pub fill-requires-clause-fields_fit : goal.fill-requires-clause-fields_fit
-fill-requires-clause-fields_fit c = omega (arith, fits _ _ _ _ _ _ c.refusal_of-refusal.ensures c.to_fill-filled.ensures)
+pub slice_bounds-records-end : goal.slice_bounds-records-end
+slice_bounds-records-end c = enough _ (in_order c.judge.ensures c.in_default.is) c.records_of-records.ensures
+
+pub slice_bounds-fill-end : goal.slice_bounds-fill-end
+slice_bounds-fill-end c = sym (length-take-le _ _ (enough _ (in_order c.judge.ensures c.in_default.is) c.records_of-records.ensures))
+
+pub fill-requires : goal.fill-requires
+fill-requires c =
+    let good = in_order c.judge.ensures c.in_default.is in
+    omega (arith, good.room, length-take-le c.args.n c.records_of-records.result (enough _ good c.records_of-records.ensures))
 
 pub returns : goal.returns
-returns c = promised _ _ _ _ _ c.refusal_of-refusal.ensures c.to_fill-filled.ensures c.fields_of-fields.ensures c.fill.ensures
+returns c = promised_accepted _ c.judge.ensures c.in_default.is c.records_of-records.ensures c.fill.ensures

@@ -12,11 +12,11 @@ returns-then-count-task c = λ site ps ends held.
     let at = c.args in
     let write = c.write_cut in
     let clear = c.clear_from in
-    leave_short (cut_of site (entered_of at.entered.now) ps) at.cut.now write.new.cut clear.new.bytes at.count at.task.k (omega arith) (write.ensures site ps ends held)
+    leave_short (cut_of site (entered_of at.entered.now) ps) at.cut.now write.new.cut clear.new.bytes at.count at.task.now.k (omega arith) (write.ensures site ps ends held)
     (sym (length-map ps (item_of site (entered_of at.entered.now)) ∙ held.number)) c.requires.room clear.ensures
 
 pub returns : goal.returns
 returns c = λ site ps ends held.
     let at = c.args in
     let clear = c.clear_from-2 in
-    leave_full (cut_of site (entered_of at.entered.now) ps) at.cut.now clear.new.bytes at.count at.task.k (omega arith) clear.ensures
+    leave_full (cut_of site (entered_of at.entered.now) ps) at.cut.now clear.new.bytes at.count at.task.now.k (omega arith) clear.ensures

@@ -1,2 +1,0 @@
-pub mod Stores
-pub mod Zeros

@@ -1,8 +1,0 @@
--- The invariant of `route_records::fields_of`'s loop: path number i stands at `at`, and those before it are laid.
-use mathlib.Core.Path.{◌≡◌}
-use Rattle.path_lists.specs.Reading.{path_place, paths_read}
-use Rattle.route_records.proofs.Fields.{PathsLaid}
-use Rattle.route_records.proofs.fields_of.Given as goal
-
-abbrev pub invariant-loop-i : goal.invariant-loop-i
-invariant-loop-i l = (l.at ≡ path_place (paths_read l.count l.paths) l.i) × PathsLaid (paths_read l.count l.paths) l.i l.fields
