@@ -40,7 +40,7 @@ fn with_where(set: Radios, v: usize, test: bool) -> Radios
     if test { set.with(v) } else { set }
 }
 
-// The radios of a set join row u.
+// The radios of a set join row u. A radio is a plain number, the index of its row.
 fn widen(rows: &mut [Radios; 64], u: usize, set: Radios)
     requires { u < most_radios }
     ensures { (a b : ℕ) → member b (get_or rows.new a 0) ≡ ((eqb a u && member b set) || member b (get_or rows.old a 0)) }
@@ -201,7 +201,7 @@ impl<'a> Table<'a> {
     }
 }
 
-// The sizes of the first n rows together: each link is counted at both its radios.
+// The sizes of the first n rows together: each link is counted at both its radios. The rows are no table, so n goes with them.
 fn total_of_rows(rows: &[Radios; 64], n: usize) -> usize
     requires { n ≤ most_radios }
     ensures { result ≡ sum (size rows.now) n }
@@ -276,7 +276,7 @@ pub fn judge_pair(n: usize, s: usize, t: usize, k: usize) -> Result<(), Refusal>
     Ok(())
 }
 
-// Refusals 7 and 8: the lengths of the lent buffers, for k paths among n radios over so many steps.
+// Refusals 7 and 8: the lengths of the lent buffers, for k paths among n radios over so many steps. All are a caller's numbers.
 #[tactic(auto, unfolding(refusals::specs::Refusals::room_verdict))]
 pub fn judge_room(
     n: usize,

@@ -21,7 +21,7 @@ impl Model for Entered {
     ghost view = { λ e. e.bytes };
 }
 
-// A half comes from a log as a byte and goes into rows as an index, so it is a plain number, and each clause says its bound.
+// A half is made from a radio's number and goes as an index, so it is a plain number, and each clause says its bound.
 impl Entered {
     // The halves whose byte is 1.
     pub fn of_bytes(bytes: [u8; 128]) -> Entered

@@ -50,7 +50,8 @@ pub struct Machine {
 }
 
 // What the halves keep: what each can walk to now, which were entered in the round, and those that wait, the first `depth`. Task and
-// links go beside it: a struct that holds lent parts and is changed is not covered by the borrow checker.
+// links go beside it: tried, a struct that holds the links and is
+// changed is not covered by the borrow checker.
 #[derive(Drop)]
 pub struct Board {
     pub rows: [Radios; 128],
@@ -150,6 +151,7 @@ fn releases(task: &Task, machine: Machine, links: &[Radios; 64], board: &Board, 
     }
 }
 
+// No one function with `releases`: a half passes DONE on under the radio that S sent it to, and S sends it under a new one.
 // DONE has come to a half: T's in half is the end of a path, an in half passes it on within its radio, an out half over its
 // marked step.
 fn carries(task: &Task, machine: Machine, links: &[Radios; 64], board: &Board) -> Stepped

@@ -1,4 +1,5 @@
-// What each half can walk to now, as a set of radios for each half that the caller lends.
+// What each half can walk to now, as a set of radios for each half that the caller lends. Halves and radios are plain numbers, made from
+// one another and used as indices, so that their bounds stand in clauses.
 #![tactic(auto)]
 
 ghost use Rattle.std.specs.Prelude.{◌≡◌, not, cond, ◌&&◌, List, ℕ, suc, ◌+◌, ◌*◌, ◌/◌, ◌≤◌, ◌<◌, eqb, get_or, IfSome};

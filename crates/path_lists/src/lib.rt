@@ -48,7 +48,7 @@ struct Ends {
 }
 
 impl Seen {
-    // The radios inside a path besides: each must be below n and none of those seen.
+    // The radios inside a path besides: each must be below n and none of those seen. Of the ends it needs n alone.
     fn with_inner(self, inside: &[u8], n: usize) -> Option<Seen>
         requires { n ≤ most_radios }
         ensures { (before : List ℕ) → IsSet self.set before → SeesIf (fresh n before inside.now) (inside.now ++ before) self.direct result }

@@ -15,7 +15,7 @@ struct Walk {
     used: usize,
 }
 
-// What the path list holds: its used bytes, and the number of paths. The list that is lent is longer.
+// What the path list holds: its used bytes, and the number of paths. Numbers, since the rest of the lent list begins there.
 #[derive(Clone, Copy)]
 pub struct Listed {
     pub used: usize,

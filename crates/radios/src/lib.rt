@@ -103,7 +103,7 @@ impl Radios {
         }
     }
 
-    // Is no radio in the set?
+    // Is no radio in the set? Plainer to its callers than a comparison with the empty one.
     pub fn is_empty(self) -> bool
         ensures { result ≡ eqb self 0 }
     {

@@ -1,4 +1,5 @@
-// The route records as C calls for them: include/fogsignaller.h declares the call and the record.
+// The route records as C calls for them: include/fogsignaller.h declares the call and the record. A crate is a library or a static
+// library, so the export has its own.
 #![tactic(auto)]
 
 ghost use Rattle.route_records.specs.Promise.{RoutesPromise};

@@ -72,7 +72,7 @@ impl<const N: usize> Sheet<N> {
         self.bytes.push(LINE_FEED);
     }
 
-    // A field that is a word.
+    // A field that is a word: with the tab before it that the first word of a line lacks.
     fn put_word(&mut self, word: &[u8])
         requires { HasRoom N self.old (field word.now) }
         ensures { self.new ≡ self.old ++ field word.now }

@@ -13,9 +13,10 @@ const TEXT_BYTES: usize = text_survey::MOST_BYTES + 1;
 const NAME_BYTES: usize = 4096;
 // More than the words of any error of the system take.
 const WORDS_BYTES: usize = 256;
-// What every byte holds before a call: a byte that the call forgets shows.
+// What every byte holds before a call: a byte that the call forgets shows. `edges` has it too: a crate for one byte is no plainer.
 const OLD_BYTE: u8 = 0xAA;
 
+// As in `sheet`, which says when it cannot write; here what cannot be written is left out.
 fn write_sheet_of(out: &impl Print, text: &[u8]) {
     let mut sheet = [OLD_BYTE; sheet_text::SHEET_ROOM];
     let written = sheet_text::write_sheet(text, &mut sheet);

@@ -16,10 +16,11 @@ pub const MOST_LINKS: usize = 256;
 // No sheet promises more paths than this.
 pub const MOST_PATHS: usize = 8;
 
-// How a cut names the direct link between S and T: no radio has this number.
+// How a cut names the direct link between S and T: no radio has this number. A cut is a list of bytes, so it is a byte and no Option.
 pub const DIRECT_LINK: u8 = 255;
 
-// The number of the cell of row i and column j. The product of two unknowns stands here alone.
+// The number of the cell of row i and column j. The product of two unknowns stands here alone. n goes with no table here, so its bound
+// is a clause.
 pub fn place(n: usize, i: usize, j: usize) -> usize
     requires { (n ≤ most_radios) × (i < n) × (j < n) }
     ensures { (result ≡ i * n + j) × (result < n * n) }

@@ -18,7 +18,7 @@ use outcome::Outcome;
 use radios::Radios;
 use refusals::Refusal;
 
-// A refused call leaves zeros in every buffer lent for results, whatever they held.
+// A refused call leaves zeros in every buffer lent for results, whatever they held: three buffers, as C lends them.
 fn refused(refusal: Refusal, log: &mut [u8], paths: &mut [u8], cut: &mut [u8]) -> Outcome
     ensures value { result ≡ record { refusal = number (Err refusal); place = place_of (Err refusal); paths = 0; rounds = 0; messages = 0 } }
     ensures log_after { log.new ≡ replicate (length log.old) 0 }
@@ -33,7 +33,8 @@ fn refused(refusal: Refusal, log: &mut [u8], paths: &mut [u8], cut: &mut [u8]) -
     outcome
 }
 
-// The cut of a run that found `count` paths: one item for each where a path is lacking, none in a full run; then zeros.
+// The cut of a run that found `count` paths: one item for each where a path is lacking, none in a full run; then zeros. The
+// list does not say how many paths it has.
 fn leave_cut(task: &Task, paths: &[u8], count: usize, entered: &Entered, cut: &mut [u8])
     requires { Cuttable paths.now count cut.old }
     ensures { (site : Site) (ps : List (List ℕ)) → Ends task.now.s task.now.t site → Holds paths.now count ps → cut.new ≡ zeros_after (length cut.old) (cond (ltb count task.now.k) (cut_of site (entered_of entered.now) ps) []) }

@@ -1,4 +1,4 @@
-// The survey as C calls it: include/fogsignaller.h declares it.
+// The survey as C calls it: include/fogsignaller.h declares it. A crate is a library or a static library, so the export has its own.
 #![tactic(auto)]
 
 ghost use Rattle.std.specs.Prelude.{length};

@@ -65,7 +65,7 @@ impl Model for Table {
 }
 
 impl Table {
-    // No line has filled it.
+    // No line has filled it. From here on the type says the bound of n.
     pub fn empty(n: usize) -> Table
         requires { n ≤ most_radios }
         ensures { result ≡ record { n = n; cells = replicate (n * n) 0 } }
