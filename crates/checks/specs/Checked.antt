@@ -47,19 +47,19 @@ abbrev pub most_steps : ℕ
 most_steps = 2 * most_links + most_radios
 
 -- what a judge tells a call: it is accepted, with whatever is found, or refused
-abbrev pub verdict_of : {Found : Type 0} → Result Found Refusal → Verdict
-verdict_of (Ok found) = Ok tt
-verdict_of (Err refusal) = Err refusal
+abbrev pub verdict_in : {Found : Type 0} → Result Found Refusal → Verdict
+verdict_in (Ok found) = Ok tt
+verdict_in (Err refusal) = Err refusal
 
 -- what a map is told, and where it is accepted its rows, twice the number of its links and its radios that are no handhelds
 pub record MapJudged (table : List ℕ) (n : ℕ) (rows : List ℕ) (answer : Result SoundMap Refusal) : Type 0 where
-  pub told : verdict_of answer ≡ map_verdict table n
+  pub told : verdict_in answer ≡ map_verdict table n
   pub rows_are : OnOk answer (RowsOfLinks table n rows)
   pub twice : IfOk answer (λ map. map.total ≡ 2 * links table n)
   pub ordinary_are : IfOk answer (λ map. Ordinary table n map.ordinary)
 
 -- what a call is told, and where it is accepted the rows that it finds and the radios that may stand inside a path
 pub record Judged (call : Call) (rows : List ℕ) (answer : Result ℕ Refusal) : Type 0 where
-  pub told : verdict_of answer ≡ verdict call
+  pub told : verdict_in answer ≡ verdict call
   pub rows_are : OnOk answer (RowsOfLinks call.site.table call.site.n rows)
   pub passing_are : IfOk answer (λ passing. Passing call.site passing)

@@ -11,12 +11,12 @@ pub record Ends (s t : ℕ) (site : Site) : Type 0 where
   pub sink : site.T ≡ t
 
 -- each is the number of a radio, so it has two halves
-abbrev pub Radios : List ℕ → Type 0
-Radios path = All (λ v. v < most_radios) path
+abbrev pub AreRadios : List ℕ → Type 0
+AreRadios path = All (λ v. v < most_radios) path
 
 -- what the writer of the cut list asks: some paths of radios that the path list holds, and a byte for each
 pub record Cuttable (list : List ℕ) (count : ℕ) (cut : List ℕ) : Type 0 where
   pub paths : List (List ℕ)
   pub held : Holds list count paths
-  pub radios : All Radios paths
+  pub radios : All AreRadios paths
   pub room : count ≤ length cut

@@ -6,7 +6,7 @@ ghost use Rattle.site.specs.Map.{Site};
 ghost use Rattle.tokens.specs.Run.{at_link, item_of, cut_of};
 ghost use Rattle.path_lists.specs.Bytes.{Holds};
 ghost use Rattle.halves.specs.Bytes.{entered_of};
-ghost use Rattle.cut.specs.Cut.{Ends, Radios, Cuttable};
+ghost use Rattle.cut.specs.Cut.{Ends, AreRadios, Cuttable};
 
 use halves::Entered;
 
@@ -26,7 +26,7 @@ fn at_link(u: u8, v: u8, s: usize, t: usize) -> u8
 
 // The cut item of one path, given its radios from S on and the entered halves.
 fn cut_item(radios: &[u8], entered: &Entered, s: usize, t: usize) -> u8
-    requires { Radios radios.now }
+    requires { AreRadios radios.now }
     ensures { (site : Site) → Ends s t site → result ≡ item_of site (entered_of entered.now) radios.now }
 {
     // Every path has radios; the definition has 0 where there are none.

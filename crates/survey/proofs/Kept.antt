@@ -11,7 +11,7 @@ use Rattle.refusals.proofs.Accepted.{Room, accepted_valid, accepted_room}
 use Rattle.site.proofs.Valid.{Valid}
 use Rattle.outcome.specs.declared.Outcome.{Outcome}
 use Rattle.outcome.specs.Leaves.{outcome}
-use Rattle.checks.specs.Checked.{Judged, verdict_of}
+use Rattle.checks.specs.Checked.{Judged, verdict_in}
 use Rattle.demands.specs.Demand1.{NothingLeft}
 use Rattle.demands.specs.Promise.{Promise}
 use Rattle.demands.proofs.First.{demand_1}
@@ -23,11 +23,11 @@ module _ (n : ℕ) (table : List ℕ) (s t k : ℕ) (log paths cut rows : List �
   call = call_of n table s t k (length log) (length paths) (length cut)
 
   -- the number is the verdict's
-  told : (outcome call).refusal ≡ number (verdict_of answer)
+  told : (outcome call).refusal ≡ number (verdict_in answer)
   unfolding outcome
   told = ap number (sym judged.told)
 
-  place_told : (outcome call).place ≡ place_of (verdict_of answer)
+  place_told : (outcome call).place ≡ place_of (verdict_in answer)
   unfolding outcome
   place_told = ap place_of (sym judged.told)
 
@@ -56,8 +56,8 @@ module _ (n : ℕ) (table : List ℕ) (s t k : ℕ) (log paths cut rows : List �
         cut-lent = refl;
       }
     where
-      accepted : number (verdict_of answer) ≡ 0
-      accepted = ap (λ (a : Result ℕ Refusal). number (verdict_of a)) is
+      accepted : number (verdict_in answer) ≡ 0
+      accepted = ap (λ (a : Result ℕ Refusal). number (verdict_in a)) is
 
       no_refusal : number (verdict call) ≡ 0
       no_refusal = ap number (sym judged.told) ∙ accepted
@@ -100,10 +100,10 @@ module _ (n : ℕ) (table : List ℕ) (s t k : ℕ) (log paths cut rows : List �
       }
     where
       number_told : (outcome call).refusal ≡ number (Err refusal)
-      number_told = told ∙ ap (λ (a : Result ℕ Refusal). number (verdict_of a)) is
+      number_told = told ∙ ap (λ (a : Result ℕ Refusal). number (verdict_in a)) is
 
       at_place : (outcome call).place ≡ place_of (Err refusal)
-      at_place = place_told ∙ ap (λ (a : Result ℕ Refusal). place_of (verdict_of a)) is
+      at_place = place_told ∙ ap (λ (a : Result ℕ Refusal). place_of (verdict_in a)) is
 
       nothing : NothingLeft call
       nothing = (demand_1 call).nothing_left (λ e. some_number refusal (sym number_told ∙ e))

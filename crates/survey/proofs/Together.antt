@@ -31,7 +31,7 @@ use Rattle.running.specs.declared.Ran.{Ran}
 use Rattle.running.specs.Run.{Leaves, Fresh, Runs}
 use Rattle.paths.specs.declared.Listed.{Listed}
 use Rattle.paths.specs.Listing.{LogOf, Listable, PathsLeft}
-use Rattle.cut.specs.Cut.{Ends, Radios, Cuttable}
+use Rattle.cut.specs.Cut.{Ends, AreRadios, Cuttable}
 use Rattle.survey.specs.Parts.{Given, LeftBehind}
 use Rattle.survey.proofs.Tails.{zeros-after}
 
@@ -135,8 +135,8 @@ module _ {task : Task} {links log paths cut : List ℕ} (given : Given task link
       holds : Holds paths' listed.paths (paths_found call)
       holds = rw number_listed (holds_front paths' (paths_found call) (drop listed.used paths) path-list)
 
-      radios : All Radios (paths_found call)
-      radios = all_follow (Path site) Radios (λ path is. all_from (λ v. v < most_radios) path (λ v h. omega (arith, path-below valid is v h, valid.few_radios))) (paths_found call) (paths_of_the_map call given.accepted)
+      radios : All AreRadios (paths_found call)
+      radios = all_follow (Path site) AreRadios (λ path is. all_from (λ v. v < most_radios) path (λ v h. omega (arith, path-below valid is v h, valid.few_radios))) (paths_found call) (paths_of_the_map call given.accepted)
 
       not_more : listed.paths ≤ call.k
       not_more = omega (arith, number_listed, (demand_2 call given.accepted).number, at_most call given.accepted)

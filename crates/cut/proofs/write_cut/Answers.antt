@@ -10,7 +10,7 @@ use Rattle.tokens.specs.Run.{item_of, cut_of}
 use Rattle.path_lists.specs.Bytes.{Holds}
 use Rattle.path_lists.proofs.Walking.{at_front, Stands, path_inside, path_stands}
 use Rattle.halves.specs.Bytes.{entered_of}
-use Rattle.cut.specs.Cut.{Radios}
+use Rattle.cut.specs.Cut.{AreRadios}
 use Rattle.cut.proofs.Cutting.{one_more_item}
 use Rattle.cut.proofs.write_cut.Goals as goal
 use Rattle.cut.proofs.write_cut.Goals.{After-path_at-path}
@@ -28,7 +28,7 @@ path_at-path-requires c = path_inside c.requires.held c.loop-item.item-index c.l
 pub cut_item-requires : goal.cut_item-requires
 cut_item-requires c =
     let p = c.requires in
-    rw (stands c p.paths p.held).radios (all_at Radios p.paths c.loop-item.item-index [] p.radios (omega (arith, p.held.number, length-take {A = ℕ})))
+    rw (stands c p.paths p.held).radios (all_at AreRadios p.paths c.loop-item.item-index [] p.radios (omega (arith, p.held.number, length-take {A = ℕ})))
 
 pub loop-item-preserved : goal.loop-item-preserved
 loop-item-preserved c =
