@@ -2,9 +2,11 @@
 // The second program writes both the list and the lines expected here.
 #![tactic(auto)]
 
+ghost use Rattle.std.specs.Prelude.{◌≡◌, ◌≤◌, length, take};
+
 use outcome::Outcome;
 use std::{array, io};
-use streams::{put, put_bytes, read_full};
+use streams::{put, put_shown, read_full};
 
 // Room for twice the calls that there are.
 const TEXT_BYTES: usize = 16384;
@@ -46,7 +48,9 @@ enum Column {
 }
 
 // A line that has fewer columns has nothing there.
-fn field_in(line: &[u8], column: Column) -> &[u8] {
+fn field_in(line: &[u8], column: Column) -> &[u8]
+    ensures { length result.now ≤ length line.now }
+{
     line.split(|byte| *byte == b'\t')
         .nth(column as usize)
         .unwrap_or_default()
@@ -71,7 +75,9 @@ fn number_in(line: &[u8], column: Column) -> usize {
 }
 
 // So many bytes of these as the line says, or all where there are fewer.
-fn front_in<'a>(line: &[u8], column: Column, bytes: &'a [u8]) -> &'a [u8] {
+fn front_in<'a>(line: &[u8], column: Column, bytes: &'a [u8]) -> &'a [u8]
+    ensures { result.now ≡ take (length result.now) bytes.now }
+{
     let length = number_in(line, column).min(bytes.len());
     &bytes[..length]
 }
@@ -142,7 +148,7 @@ impl Map {
 
 // The name and what the call is given.
 fn write_asked(out: &impl Print, line: &[u8]) {
-    put_bytes(out, field_in(line, Column::Name));
+    put(out, field_in(line, Column::Name));
     let asked = [
         (": n=", Column::Radios),
         (" cells=", Column::Cells),
@@ -154,8 +160,8 @@ fn write_asked(out: &impl Print, line: &[u8]) {
         (" cut=", Column::Cut),
     ];
     for (name, column) in asked {
-        put(out, name);
-        put(out, number_in(line, column));
+        put_shown(out, name);
+        put_shown(out, number_in(line, column));
     }
 }
 
@@ -167,7 +173,7 @@ fn write_numbers(out: &impl Print, outcome: Outcome) {
         rounds,
         messages,
     } = outcome;
-    put(
+    put_shown(
         out,
         format_args!(
             " => refusal={refusal} place={place} p={paths} rounds={rounds} messages={messages}"
@@ -176,7 +182,9 @@ fn write_numbers(out: &impl Print, outcome: Outcome) {
 }
 
 // The bytes up to the last that is not 0.
-fn used(bytes: &[u8]) -> &[u8] {
+fn used(bytes: &[u8]) -> &[u8]
+    ensures { result.now ≡ take (length result.now) bytes.now }
+{
     let count = bytes
         .iter()
         .rposition(|byte| *byte != 0)
@@ -194,7 +202,7 @@ fn sum(bytes: &[u8]) -> u32 {
 
 // A log can have thousands of messages: its length, how far its last byte that is not 0 stands, and a sum over every byte.
 fn write_log(out: &impl Print, log: &[u8]) {
-    put(
+    put_shown(
         out,
         format_args!(" log={}:{}:{}", log.len(), used(log).len(), sum(log)),
     );
@@ -203,13 +211,13 @@ fn write_log(out: &impl Print, log: &[u8]) {
 // A list is its length and its bytes without the zeros at its end.
 fn write_list(out: &impl Print, name: &str, list: &[u8]) {
     let length = list.len();
-    put(out, format_args!(" {name}={length}:"));
+    put_shown(out, format_args!(" {name}={length}:"));
     let used = used(list);
     if used.is_empty() {
-        put(out, "-");
+        put_shown(out, "-");
     }
     for byte in used {
-        put(out, format_args!("{byte:02x}"));
+        put_shown(out, format_args!("{byte:02x}"));
     }
 }
 
@@ -218,7 +226,7 @@ fn write_outcome(out: &impl Print, outcome: Outcome, log: &[u8], paths: &[u8], c
     write_log(out, log);
     write_list(out, "paths", paths);
     write_list(out, "cut", cut);
-    put(out, "\n");
+    put_shown(out, "\n");
 }
 
 // What the calls are lent the front parts of.
@@ -231,7 +239,9 @@ struct Buffers {
 
 // So many bytes as the line lends, or all where there are fewer. Each is old again, unless the call is to find what the one
 // before it left.
-fn lend<'a>(line: &[u8], column: Column, buffer: &'a mut [u8]) -> &'a mut [u8] {
+fn lend<'a>(line: &[u8], column: Column, buffer: &'a mut [u8]) -> &'a mut [u8]
+    ensures { length result.now ≤ length buffer.old }
+{
     if number_in(line, Column::Kept) == 0 {
         buffer.fill(OLD_BYTE);
     }

@@ -5,7 +5,7 @@ use std::env::{Env, FillError};
 use std::fs::File;
 use std::io;
 use std::io::Write;
-use streams::{put, put_bytes, read_full};
+use streams::{put, put_shown, read_full};
 
 // As the program `sheet` reads: one byte more than a text may have.
 const TEXT_BYTES: usize = text_survey::MOST_BYTES + 1;
@@ -20,7 +20,7 @@ const OLD_BYTE: u8 = 0xAA;
 fn write_sheet_of(out: &impl Print, text: &[u8]) {
     let mut sheet = [OLD_BYTE; sheet_text::SHEET_ROOM];
     let written = sheet_text::write_sheet(text, &mut sheet);
-    put_bytes(out, &sheet[..written]);
+    put(out, &sheet[..written]);
 }
 
 // The system's words alone, without the number that stands behind them.
@@ -43,10 +43,10 @@ fn fail(rt: &HostRuntime, name: &[u8], error: &io::Error) {
     let err = rt.stderr();
     let mut told = io::Cursor::new([0u8; WORDS_BYTES]);
     let _ = write!(told, "{error}");
-    put_bytes(&err, name);
-    put(&err, ": ");
-    put_bytes(&err, words_of(&told.into_inner()));
-    put(&err, "\n");
+    put(&err, name);
+    put_shown(&err, ": ");
+    put(&err, words_of(&told.into_inner()));
+    put_shown(&err, "\n");
 }
 
 // A path is text.
@@ -89,8 +89,8 @@ fn main(rt: HostRuntime) -> io::Result<()> {
         let Some(name) = name_at(&rt, i, &mut room) else {
             break;
         };
-        put_bytes(&rt, name);
-        put(&rt, "\n");
+        put(&rt, name);
+        put_shown(&rt, "\n");
         read_and_write(&rt, name)?;
     }
     Ok(())

@@ -8,14 +8,14 @@ use std::fmt::Display;
 use std::io;
 use std::io::Read;
 
-// What cannot be written is left out.
-pub fn put<D: Display + Drop>(out: &impl Print, shown: D) {
-    let _ = out.print(shown);
+// What cannot be written is left out. The bytes need not be text.
+pub fn put(out: &impl Print, bytes: &[u8]) {
+    let _ = out.write_all(bytes);
 }
 
-// The same of bytes that need not be text.
-pub fn put_bytes(out: &impl Print, bytes: &[u8]) {
-    let _ = out.write_all(bytes);
+// The same of what has a text of its own.
+pub fn put_shown<D: Display + Drop>(out: &impl Print, shown: D) {
+    let _ = out.print(shown);
 }
 
 // Reads until the input ends or the buffer is full, and tells how many bytes there are. A read that fails is the answer.
