@@ -14,13 +14,18 @@ use Rattle.captures.specs.Text.{pieces}
 use Rattle.captures.specs.Capture.{head_of, wrong_line, fault_line}
 use Rattle.captures.specs.Reading.{Parted}
 use Rattle.captures.specs.declared.FirstLine.{FirstLine}
+use Rattle.captures.specs.declared.Line.{Line}
 use Rattle.captures.proofs.Bounds.{head_most}
 use Rattle.captures.proofs.Pieces.{rest_shorter}
 use Rattle.texts.specs.Table.{lines_said, LinesRead}
 use Rattle.text_survey.specs.declared.TextFault.TheVariants.{TooLong, WrongShape, WrongRadios, BadLine}
-use Rattle.text_survey.specs.Survey.{most_bytes, of_head, survey_of}
+use Rattle.text_survey.specs.Survey.{most_bytes, refused_for, of_head, survey_of}
 use Rattle.text_survey.specs.Delivered.{Mapped, Faulty}
 use Rattle.text_survey.proofs.Lines.{wrong_small, fault_small}
+
+-- 1, whatever the lines after the first say
+pub told_radios : (first : FirstLine) (lines : List (Option Line)) → no_size first.n ≡ true → of_head (Some first) lines ≡ refused_for WrongRadios
+told_radios first lines bad = rw bad
 
 -- 10
 pub too_long : (text : List ℕ) → most_bytes < length text → Faulty text TooLong
@@ -50,7 +55,7 @@ module _ (text : List ℕ) (short : length text ≤ most_bytes) where
       module _ {first : FirstLine} (says : Some first ≡ head_of line) where
         -- 1
         pub wrong_radios : no_size first.n ≡ true → Faulty text WrongRadios
-        wrong_radios bad = record { survey_is = by_head says ∙ rw bad; small = omega arith }
+        wrong_radios bad = record { survey_is = by_head says ∙ told_radios first (lines_said rest) bad; small = omega arith }
 
         module _ (fine : no_size first.n ≡ false) where
           -- 11
@@ -61,4 +66,4 @@ module _ (text : List ℕ) (short : length text ≤ most_bytes) where
           -- or the map
           pub the_map : {table : List ℕ} → LinesRead rest first.n table None → Mapped text first table
           the_map read =
-              record { survey_is = by_head says ∙ rw (fine, ← read.told, ← read.filled); capture = head_most line first (sym says); few = (size_fits first.n fine).1 }
+              record { survey_is = by_head says ∙ rw (fine, ← read.told, ← read.filled); capture = (head_most line first (sym says)).0; few = (size_fits first.n fine).1 }
