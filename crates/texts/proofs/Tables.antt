@@ -119,6 +119,17 @@ unfolding table_with
 table_more n table [] line = refl
 table_more n table (first ∷ lines) line = table_more n (with_line n table first) lines line
 
+-- no line makes a table longer or shorter
+table_long : (n : ℕ) (table : List ℕ) (lines : List (Option Line)) → length (table_with n table lines) ≡ length table
+unfolding table_with
+table_long n table [] = refl
+table_long n table (line ∷ lines) = table_long n (with_line n table line) lines ∙ with_long n table line
+
+-- so a table that was left at a fault has its n · n cells too
+pub read_long : (text : List ℕ) (n : ℕ) (table : List ℕ) (r : Option ℕ) → LinesRead text n table r → length table ≡ n * n
+read_long text n table None read = ap length read.filled ∙ table_long n _ _ ∙ length-replicate (n * n) 0
+read_long text n table (Some number) read = ap length read.stopped ∙ table_long n _ _ ∙ length-replicate (n * n) 0
+
 module _ {text left : List ℕ} {n : ℕ} {table : List ℕ} {number : ℕ} (filling : Filling text left n table number) where
   module _ {line rest : List ℕ} (cut : Parted line_feed left line rest) {said : Option Line} (says : said ≡ line_of line) {after : List ℕ} {good : Bool} (added : Added n table said after good) where
     lines_here : lines_said left ≡ said ∷ lines_said rest
