@@ -1,7 +1,7 @@
 // The halves of a map that are entered: these methods alone know how they are kept.
 #![tactic(auto)]
 
-ghost use Rattle.std.specs.Prelude.{◌≡◌, ◌||◌, ◌*◌, ◌<◌, eqb, replicate};
+ghost use Rattle.std.specs.Prelude.{◌≡◌, ◌||◌, ◌*◌, ◌<◌, eqb, length, replicate};
 ghost use Rattle.site.specs.Limits.{most_radios};
 ghost use Rattle.halves.specs.Bytes.{entered_of};
 
@@ -37,6 +37,14 @@ impl Entered {
         Entered::of_bytes([0; 128])
     }
 
+    // The bytes, as `of_bytes` took them: 1 for each half that is entered.
+    pub fn bytes(&self) -> &[u8; 128]
+        ensures all_bytes { length result.now ≡ 128 }
+        ensures same { result.now ≡ self.now }
+    {
+        &self.bytes
+    }
+
     // Has half h been entered?
     pub fn is_entered(&self, h: usize) -> bool
         requires { h < 2 * most_radios }
@@ -48,7 +56,8 @@ impl Entered {
     // Half h is entered.
     pub fn enter(&mut self, h: usize)
         requires { h < 2 * most_radios }
-        ensures { entered_of self.new ≡ (λ x. eqb x h || entered_of self.old x) }
+        ensures all_bytes { length self.new ≡ 128 }
+        ensures by_half { entered_of self.new ≡ (λ x. eqb x h || entered_of self.old x) }
     {
         self.bytes[h] = 1;
     }
@@ -56,7 +65,8 @@ impl Entered {
     // No half is entered but h.
     pub fn enter_only(&mut self, h: usize)
         requires { h < 2 * most_radios }
-        ensures { entered_of self.new ≡ (λ x. eqb x h) }
+        ensures all_bytes { length self.new ≡ 128 }
+        ensures by_half { entered_of self.new ≡ (λ x. eqb x h) }
     {
         self.bytes.fill(0);
         self.bytes[h] = 1;

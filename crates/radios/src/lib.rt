@@ -65,6 +65,13 @@ impl Radios {
         Radios::of_bits(0)
     }
 
+    // The number that tells the set. Its type bounds it, so this call tells the bound of any set.
+    pub fn bits(self) -> u64
+        ensures { result ≡ self }
+    {
+        self.bits
+    }
+
     // Is radio i in the set?
     pub fn has(self, i: usize) -> bool
         requires { i < 64 }
