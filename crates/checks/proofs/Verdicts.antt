@@ -16,10 +16,11 @@ use Rattle.site.specs.Map.{Site, links, degree, passes, A}
 use Rattle.site.proofs.Formula.{Even, degrees_twice_links, steps_and_degrees, two_degrees, few_steps}
 use Rattle.site.proofs.Steps.{passes-outside}
 use Rattle.message_log.specs.Bytes.{message_bytes}
-use Rattle.refusals.specs.Refusals.{Call, Verdict, finding, no_size, map_verdict, pair_verdict, room_verdict, verdict, number}
+use Rattle.refusals.specs.Refusals.{Call, Verdict, refusal_of, finding, no_size, map_verdict, pair_verdict, room_verdict, verdict, number}
+use Rattle.refusals.specs.declared.BadCell.{BadCell}
 use Rattle.refusals.specs.declared.Refusal.{Refusal}
 use Rattle.refusals.specs.declared.Refusal.TheVariants.{Radios, TableLength, Links, Ends, Wanted, Log, Lists}
-use Rattle.std.specs.Prelude.{Result, Ok, Err}
+use Rattle.std.specs.Prelude.{Result, Ok, Err, IsErrAnd}
 use Rattle.refusals.proofs.Exactly.{some_number, map_exact, pair_exact, told_by_map, told_by_pair, told_by_room}
 use Rattle.refusals.proofs.Accepted.{SoundMap as Sound, sound_map, GoodPair, good_pair}
 use Rattle.checks.specs.Checked.{members, size, Countable, most_steps, MapJudged, Judged}
@@ -51,6 +52,14 @@ module _ {table : List ℕ} {n : ℕ} {rows : List ℕ} where
   pub told_length : 2 ≤ n → n ≤ most_radios → (length table ≡ n * n → ⊥) → MapJudged table n rows (Err TableLength)
   unfolding map_verdict
   told_length two most h = record { told = sym (simp (le-ltb _ _ two, le-ltb _ _ most, ne_eqb _ _ h)); rows_are = tt; twice = tt; ordinary_are = tt }
+
+  -- 3 and 13: the answer is the refusal that is made of the bad cell
+  pub told_cell : {bad : BadCell} (answer : Result SoundMap Refusal) → 2 ≤ n → n ≤ most_radios → length table ≡ n * n → Err bad ≡ finding table n → IsErrAnd answer (λ refusal. refusal ≡ refusal_of bad) → MapJudged table n rows answer
+  unfolding map_verdict
+  told_cell (Ok map) two most long found made = absurd made
+  told_cell {bad} (Err refusal) two most long found made =
+      let some = ne_eqb _ _ (some_number (refusal_of bad)) in
+      record { told = ap Err made ∙ sym (simp (le-ltb _ _ two, le-ltb _ _ most, eq-eqb _ _ long, sym found, some)); rows_are = tt; twice = tt; ordinary_are = tt }
 
   module _ {total : ℕ} (m : Mapped table n rows total) where
     twice : total ≡ 2 * links table n

@@ -14,9 +14,8 @@ use Rattle.path_lists.specs.Judge.{RadioList, SoundLists}
 use Rattle.path_lists.proofs.Judging.{sound_tells}
 use Rattle.path_lists.proofs.Read.{same-front}
 use Rattle.refusals.specs.Refusals.{Verdict, number}
-use Rattle.refusals.specs.declared.Refusal.{Refusal}
 use Rattle.refusals.proofs.Exactly.{some_number}
-use Rattle.std.specs.Prelude.{Ok, Err}
+use Rattle.std.specs.Prelude.{Ok, Err, OnOk, OnErr}
 use Rattle.route_records.specs.declared.Role.TheVariants.{OffPaths}
 use Rattle.route_records.specs.declared.Route.{Route}
 use Rattle.route_records.specs.Records.{alone, record_in, record_from, record_of, records_of, RoutesCall, routes_verdict, verdict_of, records_left}
@@ -113,15 +112,10 @@ promise call =
       past_unread = alike call;
     }
 
-pub promised : (call : RoutesCall) {refusal : ℕ} {records : List Route} → refusal ≡ number (verdict_of call) → records ≡ records_left call → RoutesPromise call refusal records
-promised call told left = rw (told, left) (promise call)
+keeps : (call : RoutesCall) {refusal : ℕ} {records : List Route} → refusal ≡ number (verdict_of call) → records ≡ records_left call → RoutesPromise call refusal records
+keeps call told left = rw (told, left) (promise call)
 
 -- ---- the call
-
-pub promised_refused : (call : RoutesCall) {verdict : Verdict} {refusal : Refusal} {told : ℕ} → verdict ≡ verdict_of call → verdict ≡ Err refusal → told ≡ number (Err refusal) → RoutesPromise call told call.records
-promised_refused call {verdict} {refusal} judged is told =
-    let same : number (verdict_of call) ≡ number (Err refusal) = ap number (sym judged ∙ is) in
-    promised call (told ∙ sym same) (sym (left_refused call (λ e. some_number refusal (sym same ∙ e))))
 
 -- a call that is accepted is in order
 pub in_order : {n records count : ℕ} {list : List ℕ} {verdict : Verdict} {u : Unit {0}} → verdict ≡ routes_verdict n records count list → verdict ≡ Ok u → Accepted n records count list
@@ -146,10 +140,15 @@ tellable {n} {records} {count} {list} good = record {
 pub enough : {n records count : ℕ} {list : List ℕ} (paths : List (List ℕ)) {all : List Route} → Accepted n records count list → all ≡ records_of paths most_radios → n ≤ length all
 enough paths good made = omega (arith, good.few_radios, ap length made, length_records paths most_radios)
 
--- and its records are set
-pub promised_accepted : (call : RoutesCall) {verdict : Verdict} {u : Unit {0}} {all after : List Route} → verdict ≡ verdict_of call → verdict ≡ Ok u → all ≡ records_of (paths_of call) most_radios
-    → after ≡ take call.n all ++ drop (length (take call.n all)) call.records → RoutesPromise call 0 after
-promised_accepted call {verdict} {u} {all} judged is made set =
-    let none : number (verdict_of call) ≡ 0 = ap number (sym judged ∙ is) in
-    let first : take call.n all ≡ records_of (paths_of call) call.n = ap (take call.n) made ∙ fewer_records (paths_of call) call.n most_radios (in_order judged is).few_radios in
-    promised call (sym none) (set ∙ rw (first, length_records (paths_of call) call.n) (sym (left_accepted call none)))
+-- what the steps of the call give keeps the promise: a list that is accepted has all radios' records made of its paths, and the first n
+-- of them set; after a refusal the records are as they were
+pub promised : (call : RoutesCall) (verdict : Verdict) {refusal : ℕ} (all : List Route) {after : List Route} → verdict ≡ verdict_of call → refusal ≡ number verdict
+    → OnOk verdict ((all ≡ records_of (paths_of call) most_radios) × (after ≡ take call.n all ++ drop (length (take call.n all)) call.records)) → OnErr verdict (after ≡ call.records)
+    → RoutesPromise call refusal after
+promised call (Ok u) all judged told laid kept =
+    let none : number (verdict_of call) ≡ 0 = ap number (sym judged) in
+    let first : take call.n all ≡ records_of (paths_of call) call.n = ap (take call.n) laid.0 ∙ fewer_records (paths_of call) call.n most_radios (in_order judged refl).few_radios in
+    keeps call (told ∙ sym none) (laid.1 ∙ rw (first, length_records (paths_of call) call.n) (sym (left_accepted call none)))
+promised call (Err reason) all judged told laid kept =
+    let some : number (verdict_of call) ≡ 0 → ⊥ = λ e. some_number reason (ap number judged ∙ e) in
+    keeps call (told ∙ ap number judged) (kept ∙ sym (left_refused call some))

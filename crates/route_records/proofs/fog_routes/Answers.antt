@@ -1,12 +1,13 @@
 -- `route_records::fog_routes` meets its contract. Assumes nothing.
-use mathlib.Core.Path.{sym}
+use mathlib.Core.Path.{refl, sym, ◌∙◌}
+use mathlib.Core.List.{[]}
 use native.Mathlib.Omega.{arith}
 use lib.Seq.{length-take-le}
-use Rattle.route_records.proofs.Promised.{promised_refused, in_order, tellable, enough, promised_accepted}
+use Rattle.route_records.proofs.Promised.{in_order, tellable, enough, promised}
 use Rattle.route_records.proofs.fog_routes.Goals as goal
 
 pub returns-in-Err : goal.returns-in-Err
-returns-in-Err c = promised_refused _ c.judge.ensures c.in-Err.is c.number.ensures
+returns-in-Err c = promised _ _ [] (sym c.in-Err.is ∙ c.judge.ensures) c.number.ensures tt refl
 
 pub records_of-records-requires : goal.records_of-records-requires
 records_of-records-requires c = tellable (in_order c.judge.ensures c.in_default.is)
@@ -23,4 +24,4 @@ fill-requires c =
     omega (arith, good.room, length-take-le c.args.n c.records_of-records.result (enough _ good c.records_of-records.ensures))
 
 pub returns : goal.returns
-returns c = promised_accepted _ c.judge.ensures c.in_default.is c.records_of-records.ensures c.fill.ensures
+returns c = promised _ _ _ (sym c.in_default.is ∙ c.judge.ensures) refl (c.records_of-records.ensures, c.fill.ensures) tt
