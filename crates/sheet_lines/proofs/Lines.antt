@@ -13,11 +13,11 @@ use Rattle.sheet_lines.specs.Lines.{field, ended, report_line, radio_fields, pat
 
 -- ---- a line, and what follows it
 
-report-then : (capture : ℕ) (all : Bool) (paths rounds messages : ℕ) (rest : List ℕ) → report_line capture all paths rounds messages rest ≡ report_line capture all paths rounds messages [] ++ rest
+pub report-then : (capture : ℕ) (all : Bool) (paths rounds messages : ℕ) (rest : List ℕ) → report_line capture all paths rounds messages rest ≡ report_line capture all paths rounds messages [] ++ rest
 unfolding report_line
 report-then capture all paths rounds messages rest = simp append_assoc
 
-radios_then : (radios rest : List ℕ) → radio_fields radios rest ≡ radio_fields radios [] ++ rest
+pub radios_then : (radios rest : List ℕ) → radio_fields radios rest ≡ radio_fields radios [] ++ rest
 unfolding radio_fields
 radios_then [] rest = refl
 radios_then (radio ∷ radios) rest = rw (radios_then radios rest) (simp append_assoc)
@@ -26,7 +26,7 @@ radios_ended : (radios rest : List ℕ) → radio_fields radios (ended rest) ≡
 radios_ended radios rest = rw (radios_then radios (ended rest), radios_then radios (ended [])) (simp append_assoc)
 
 -- the line of the first path, then those of the others
-path-then : (number : ℕ) (radios : List ℕ) (paths : List (List ℕ)) (rest : List ℕ) → path_lines number (radios ∷ paths) rest ≡ path_lines number (radios ∷ []) [] ++ path_lines (suc number) paths rest
+pub path-then : (number : ℕ) (radios : List ℕ) (paths : List (List ℕ)) (rest : List ℕ) → path_lines number (radios ∷ paths) rest ≡ path_lines number (radios ∷ []) [] ++ path_lines (suc number) paths rest
 unfolding path_lines
 path-then number radios paths rest = ap (λ (l : List ℕ). path ++ (field (decimal number) ++ l)) (radios_ended radios (path_lines (suc number) paths rest)) ∙ simp append_assoc
 
@@ -34,12 +34,12 @@ no_paths_then : (number : ℕ) (rest : List ℕ) → path_lines number [] rest �
 unfolding path_lines
 no_paths_then number rest = refl
 
-paths_then : (number : ℕ) (paths : List (List ℕ)) (rest : List ℕ) → path_lines number paths rest ≡ path_lines number paths [] ++ rest
+pub paths_then : (number : ℕ) (paths : List (List ℕ)) (rest : List ℕ) → path_lines number paths rest ≡ path_lines number paths [] ++ rest
 paths_then number [] rest = rw (no_paths_then number rest, no_paths_then number [])
 paths_then number (radios ∷ paths) rest = rw (path-then number radios paths rest, path-then number radios paths [], paths_then (suc number) paths rest) (simp append_assoc)
 
 -- the line of the first item, then those of the others
-item_then : (number item : ℕ) (items : List ℕ) → cut_lines number (item ∷ items) ≡ cut_lines number (item ∷ []) ++ cut_lines (suc number) items
+pub item_then : (number item : ℕ) (items : List ℕ) → cut_lines number (item ∷ items) ≡ cut_lines number (item ∷ []) ++ cut_lines (suc number) items
 unfolding cut_lines
 item_then number item items = simp append_assoc
 
