@@ -1,4 +1,5 @@
 pub mod Numbers
 pub mod Left
+pub mod Writing
 pub mod Lines
 pub mod Room

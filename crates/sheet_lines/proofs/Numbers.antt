@@ -65,3 +65,7 @@ digits-below-1000 x h = few_digits 3 x (omega arith) h (omega arith)
 
 pub digits-below-100000 : (x : ℕ) → x < 100000 → length (decimal x) ≤ 5
 digits-below-100000 x h = few_digits 5 x (omega arith) h (omega arith)
+
+-- the largest number that a machine word holds has twenty
+pub digits_of_word : (x : ℕ) → x < 2 ^ 64 → length (decimal x) ≤ 20
+digits_of_word x h = few_digits 20 x (omega arith) (omega arith) h

@@ -2,7 +2,7 @@
 use mathlib.Core.Path.{subst}
 use mathlib.Core.Bool.{Bool, true, false, cond}
 use mathlib.Core.List.{List, [], ◌∷◌, ◌++◌}
-use Prim.Native.Nat.{ℕ, zero, suc, ◌+◌, ◌*◌, ◌≤◌, ◌<◌}
+use Prim.Native.Nat.{ℕ, zero, suc, ◌+◌, ◌*◌, ◌^◌, ◌≤◌, ◌<◌}
 use native.Mathlib.Omega.{arith}
 use mir.Syntax.{w8}
 use mir.Val.{Fits}
@@ -14,7 +14,7 @@ use Rattle.captures.specs.Words.{full, short, link}
 use Rattle.captures.specs.Text.{decimal}
 use Rattle.path_lists.specs.Bytes.{path_bytes, Holds}
 use Rattle.sheet_lines.specs.Lines.{field, ended, refused_line, report_line, radio_fields, path_lines, item_word, cut_lines}
-use Rattle.sheet_lines.proofs.Numbers.{digits-below-100, digits-below-1000, digits-below-100000}
+use Rattle.sheet_lines.proofs.Numbers.{digits-below-100, digits-below-1000, digits-below-100000, digits_of_word}
 
 -- each of the list has three digits at most, as every byte has
 abbrev pub Small : List ℕ → Type 0
@@ -26,15 +26,15 @@ pub refused-fits : (number place : ℕ) → number < 100000 → place < 100000 �
 unfolding refused_line
 refused-fits number place h k = simp length-append (omega (arith, digits-below-100000 number h, digits-below-100000 place k))
 
-report-fits : (capture : ℕ) (all : Bool) (paths rounds messages : ℕ) (rest : List ℕ) → capture < 100000 → paths < 100000 → rounds < 100000 → messages < 100000
+all_fits : (all : Bool) → length (cond all full short) ≤ 5
+all_fits true = omega arith
+all_fits false = omega arith
+
+pub report-fits : (capture : ℕ) (all : Bool) (paths rounds messages : ℕ) (rest : List ℕ) → capture < 100000 → paths < 100000 → rounds < 100000 → messages < 100000
     → length (report_line capture all paths rounds messages rest) ≤ 37 + length rest
 unfolding report_line
 report-fits capture all paths rounds messages rest c p r m =
-    simp length-append (omega (arith, word all, digits-below-100000 capture c, digits-below-100000 paths p, digits-below-100000 rounds r, digits-below-100000 messages m))
-  where
-    word : (all : Bool) → length (cond all full short) ≤ 5
-    word true = omega arith
-    word false = omega arith
+    simp length-append (omega (arith, all_fits all, digits-below-100000 capture c, digits-below-100000 paths p, digits-below-100000 rounds r, digits-below-100000 messages m))
 
 radios_fit : (radios rest : List ℕ) → Small radios → length (radio_fields radios rest) ≤ 4 * length radios + length rest
 unfolding radio_fields
@@ -42,7 +42,7 @@ radios_fit [] rest h = omega arith
 radios_fit (radio ∷ radios) rest h = omega (arith, length-append (decimal radio) (radio_fields radios rest), digits-below-1000 radio h.0, radios_fit radios rest h.1)
 
 -- with numbers below 100: four bytes for each path and four for each byte of the path list
-paths_fit : (number : ℕ) (paths : List (List ℕ)) (rest : List ℕ) → number + length paths ≤ 100 → All Small paths
+pub paths_fit : (number : ℕ) (paths : List (List ℕ)) (rest : List ℕ) → number + length paths ≤ 100 → All Small paths
     → length (path_lines number paths rest) ≤ 4 * length paths + 4 * length (path_bytes paths) + length rest
 unfolding path_lines path_bytes
 paths_fit number [] rest h small = omega arith
@@ -65,7 +65,7 @@ word_fits item h = pick (eqb item direct_link)
     pick false = omega (arith, digits-below-1000 item h)
 
 -- with numbers below 100: twelve bytes for each item
-cut_fits : (number : ℕ) (items : List ℕ) → number + length items ≤ 100 → Small items → length (cut_lines number items) ≤ 12 * length items
+pub cut_fits : (number : ℕ) (items : List ℕ) → number + length items ≤ 100 → Small items → length (cut_lines number items) ≤ 12 * length items
 unfolding cut_lines
 cut_fits number [] h small = omega arith
 cut_fits number (item ∷ items) h small =
@@ -78,6 +78,29 @@ cut_fits number (item ∷ items) h small =
       digits-below-100 number (omega arith),
       cut_fits (suc number) items (omega arith) small.1,
     )
+
+-- ---- one line alone, whatever numbers are on it
+
+pub refused_alone : (number place : ℕ) → number < 2 ^ 64 → place < 2 ^ 64 → length (refused_line number place) ≤ 50
+unfolding refused_line
+refused_alone number place h k = simp length-append (omega (arith, digits_of_word number h, digits_of_word place k))
+
+pub report_alone : (capture : ℕ) (all : Bool) (paths rounds messages : ℕ) → capture < 2 ^ 64 → paths < 2 ^ 64 → rounds < 2 ^ 64 → messages < 2 ^ 64
+    → length (report_line capture all paths rounds messages []) ≤ 97
+unfolding report_line
+report_alone capture all paths rounds messages c p r m =
+    simp length-append (omega (arith, all_fits all, digits_of_word capture c, digits_of_word paths p, digits_of_word rounds r, digits_of_word messages m))
+
+-- a path of a list, whose number of radios is one byte
+pub path_alone : (number : ℕ) (radios : List ℕ) → number < 2 ^ 64 → length radios ≤ 255 → Small radios → length (path_lines number (radios ∷ []) []) ≤ 1046
+unfolding path_lines
+path_alone number radios h few small =
+    omega (arith, length-append (decimal number) (radio_fields radios (ended [])), radios_fit radios (ended []) small, digits_of_word number h)
+
+pub item_alone : (number item : ℕ) → number < 2 ^ 64 → item < 1000 → length (cut_lines number (item ∷ [])) ≤ 30
+unfolding cut_lines
+item_alone number item h small =
+    omega (arith, length-append (decimal number) (field (item_word item) ++ ended []), length-append (item_word item) (ended []), word_fits item small, digits_of_word number h)
 
 -- ---- the whole sheet of an accepted call
 

@@ -1,2 +1,3 @@
 pub mod Lines
 pub mod Room
+pub mod Written

@@ -7,11 +7,16 @@ ghost use Rattle.captures.specs.Text.{decimal};
 ghost use Rattle.sheet_lines.specs.Lines.{field, ended, refused_line, report_line, path_lines, cut_lines};
 ghost use Rattle.sheet_lines.specs.Room.{HasRoom, Printable};
 
+mod lent;
+
 use arrayvec::ArrayVec;
 use captures::{LINE_FEED, TAB};
 use itoa::Buffer;
 use site::DIRECT_LINK;
 use std::marker::Model;
+
+// For a caller that has a buffer of its own.
+pub use lent::{put_cut, put_paths, put_refused, put_report};
 
 // No sheet is longer.
 pub const SHEET_ROOM: usize = 512;
