@@ -1,6 +1,6 @@
 -- What a text is cut into at its first separator. Assumes nothing.
-use mathlib.Core.Path.{◌≡◌, refl, sym, ap, ◌∙◌}
-use mathlib.Core.Bool.{Bool, false}
+use mathlib.Core.Path.{◌≡◌, sym, ap, ◌∙◌}
+use mathlib.Core.Bool.{Bool}
 use mathlib.Core.List.{List, [], ◌∷◌, ◌++◌}
 use Prim.Native.Nat.{ℕ, ◌+◌, ◌-◌, ◌<◌}
 use native.Mathlib.Decide.{dec_lt}
@@ -11,10 +11,8 @@ use lib.Seq.{take_all}
 use borrow.Author.Tests.{lt-ltb, le-ltb, eqb-true}
 use Rattle.std.proofs.Common.{Option, Some, None}
 use Rattle.std.specs.List.{position, position_or_len}
-use Rattle.std.proofs.lemmas.Bool.{false_from_ne_true}
 use Rattle.std.proofs.lemmas.List.Splits.{slice_split_none, slice_split_first, length-slice_split}
-use Rattle.std.proofs.lemmas.List.Sums.{split_at_first, position_or_len_is, fails_before_first, passes_at_first}
-use Rattle.memchr.specs.Find.{IsFirstByte, is_byte}
+use Rattle.std.proofs.lemmas.List.Sums.{split_at_first, fails_before_first, passes_at_first}
 use Rattle.captures.specs.Text.{pieces}
 use Rattle.captures.specs.Reading.{Parted}
 
@@ -24,16 +22,6 @@ module _ (separator : ℕ) (bytes : List ℕ) where
 
   first : ℕ
   first = position_or_len is_end bytes
-
-  -- the place that the search tells
-  pub told_place : (r : Option ℕ) → IsFirstByte (is_byte separator) bytes r → r ≡ position (λ x. eqb x separator) bytes
-  unfolding is_end first
-  told_place (Some i) found =
-      let here : first ≡ i = position_or_len_is is_end bytes i 0 (omega (arith, found.0.high)) (λ k l. false_from_ne_true _ (found.0.before k (omega arith) l)) (λ l. found.1) in
-      rw (lt-ltb first (length bytes) (omega (arith, here, found.0.high))) (ap (λ (n : ℕ). Some n) (sym here))
-  told_place None nowhere =
-      let past : first ≡ length bytes = position_or_len_is is_end bytes (length bytes) 0 (omega arith) (λ k l. false_from_ne_true _ (nowhere k (omega arith) l)) (λ l. absurd (omega arith)) in
-      rw (le-ltb first (length bytes) (omega (arith, past))) refl
 
   pub parted_at : (i : ℕ) → Some i ≡ position (λ x. eqb x separator) bytes → Parted separator bytes (take i bytes) (take (length bytes - (i + 1)) (drop (i + 1) bytes))
   unfolding is_end first pieces

@@ -32,12 +32,11 @@ pub enum Line {
     Hand(usize),
 }
 
-// What stands before the first separator and what stands after it; none where there is no separator. The search is that of memchr:
-// by the iterator's `position` it takes ten times the instructions on a long line.
+// What stands before the first separator and what stands after it; none where there is no separator.
 pub fn split_at_first(bytes: &[u8], separator: u8) -> Option<(&[u8], &[u8])>
     ensures { MatchOption result (pieces separator bytes.now ≡ bytes.now ∷ []) (λ parts. Parted separator bytes.now parts.0.now parts.1.now) }
 {
-    let place = memchr::memchr(separator, bytes)?;
+    let place = bytes.iter().position(|byte| *byte == separator)?;
     Some((&bytes[..place], &bytes[place + 1..]))
 }
 
