@@ -1,18 +1,18 @@
 -- What a text is cut into at its first separator. Assumes nothing.
-use mathlib.Core.Path.{◌≡◌, sym, ap, ◌∙◌}
-use mathlib.Core.Bool.{Bool}
+use mathlib.Core.Path.{◌≡◌, refl, sym, ap, ◌∙◌}
+use mathlib.Core.Bool.{Bool, false}
 use mathlib.Core.List.{List, [], ◌∷◌, ◌++◌}
-use Prim.Native.Nat.{ℕ, ◌+◌, ◌-◌, ◌<◌}
-use native.Mathlib.Decide.{dec_lt}
+use Prim.Native.Nat.{ℕ, ◌+◌, ◌-◌, ◌<◌, ◌≤◌}
+use native.Mathlib.Decide.{ℕ_discrete, dec_lt}
 use native.Mathlib.Omega.{arith}
 use lib.Dec.{eqb}
-use lib.ListN.{length, take, drop, length-drop, length-append}
+use lib.ListN.{length, get_or, take, drop, length-drop, length-append}
 use lib.Seq.{take_all}
-use borrow.Author.Tests.{lt-ltb, le-ltb, eqb-true}
+use borrow.Author.Tests.{lt-ltb, le-ltb, eqb-true, eq-eqb, ne_eqb}
 use Rattle.std.proofs.Common.{Option, Some, None}
 use Rattle.std.specs.List.{position, position_or_len}
 use Rattle.std.proofs.lemmas.List.Splits.{slice_split_none, slice_split_first, length-slice_split}
-use Rattle.std.proofs.lemmas.List.Sums.{split_at_first, fails_before_first, passes_at_first}
+use Rattle.std.proofs.lemmas.List.Sums.{split_at_first, position_or_len_is, fails_before_first, passes_at_first}
 use Rattle.captures.specs.Text.{pieces}
 use Rattle.captures.specs.Reading.{Parted}
 
@@ -22,6 +22,30 @@ module _ (separator : ℕ) (bytes : List ℕ) where
 
   first : ℕ
   first = position_or_len is_end bytes
+
+  -- no separator stands before the place
+  abbrev pub Passed : ℕ → Type 0
+  Passed i = (k : ℕ) → k < i → eqb (get_or bytes k 0) separator ≡ false
+
+  pub passed_more : (i : ℕ) → Passed i → (get_or bytes i 0 ≡ separator → ⊥) → Passed (i + 1)
+  unfolding is_end
+  passed_more i passed other k below = go (ℕ_discrete k i)
+    where
+      go : Dec (k ≡ i) → eqb (get_or bytes k 0) separator ≡ false
+      go (yes e) = rw e (ne_eqb _ _ other)
+      go (no ne) = passed k (omega (arith, ne))
+
+  pub first_is : (i : ℕ) → i ≤ length bytes → Passed i → (i < length bytes → get_or bytes i 0 ≡ separator) → i ≡ position_or_len (λ x. eqb x separator) bytes
+  unfolding is_end
+  first_is i within passed here = sym (position_or_len_is is_end bytes i 0 within passed (λ l. eq-eqb _ _ (here l)))
+
+  pub told_place : (i : ℕ) → i ≡ position_or_len (λ x. eqb x separator) bytes → i < length bytes → Some i ≡ position (λ x. eqb x separator) bytes
+  unfolding is_end first
+  told_place i is below = rw (lt-ltb first (length bytes) (omega (arith, is))) (ap (λ (n : ℕ). Some n) is)
+
+  pub nowhere : length bytes ≡ position_or_len (λ x. eqb x separator) bytes → None ≡ position (λ x. eqb x separator) bytes
+  unfolding is_end first
+  nowhere is = rw (le-ltb first (length bytes) (omega (arith, is))) refl
 
   pub parted_at : (i : ℕ) → Some i ≡ position (λ x. eqb x separator) bytes → Parted separator bytes (take i bytes) (take (length bytes - (i + 1)) (drop (i + 1) bytes))
   unfolding is_end first pieces
