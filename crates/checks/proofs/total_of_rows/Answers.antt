@@ -15,7 +15,7 @@ loop-row-init c = (refl, omega arith)
 
 -- the row that is read adds its size
 added : (c : After-count-total) → c.count-total.result ≡ size c.args.rows.now c.loop-row.row-index
-added c = size_read_of c.args.rows.now c.args.n c.loop-row.row-index c.row-item.result _ c.count-total.ensures c.row-item.is c.loop-row-test.true
+added c = size_read_of c.args.rows.now _ c.loop-row.row-index c.row-item.result _ c.count-total.ensures c.row-item.is c.loop-row-test.true
 
 pub overflow_add-total : goal.overflow_add-total
 overflow_add-total c = omega (arith, c.count-total.ensures, count-le most_radios c.row-item.result)
