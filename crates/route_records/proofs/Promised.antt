@@ -112,7 +112,8 @@ promise call =
       past_unread = alike call;
     }
 
-keeps : (call : RoutesCall) {refusal : ℕ} {records : List Route} → refusal ≡ number (verdict_of call) → records ≡ records_left call → RoutesPromise call refusal records
+-- the same of any answer that is the verdict's number, and of any records that are those left
+pub keeps : (call : RoutesCall) {refusal : ℕ} {records : List Route} → refusal ≡ number (verdict_of call) → records ≡ records_left call → RoutesPromise call refusal records
 keeps call told left = rw (told, left) (promise call)
 
 -- ---- the call

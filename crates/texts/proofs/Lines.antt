@@ -13,7 +13,7 @@ use Rattle.captures.specs.Words.{line_feed}
 use Rattle.captures.specs.Text.{pieces}
 use Rattle.captures.specs.Capture.{line_of, right_shape, wrong_line, lines_of}
 use Rattle.captures.specs.Reading.{Parted}
-use Rattle.captures.proofs.Pieces.{some_piece}
+use Rattle.captures.proofs.Pieces.{rest_shorter, some_piece}
 
 -- ---- one line
 
@@ -49,21 +49,16 @@ module _ {left : List ℕ} (open_end : pieces line_feed left ≡ left ∷ []) wh
 
 -- what is known before line `number`, which `left` begins with: the lines before it have the right shape
 pub record PassedOver (text left : List ℕ) (number : ℕ) : Type 0 where
-  pub within : length left ≤ length text
   pub few : number + length left ≤ length text + 1
   pub same : wrong_line 1 (pieces line_feed text) ≡ wrong_line number (pieces line_feed left)
 
 pub passed_none : (text : List ℕ) → PassedOver text text 1
-passed_none text = record { within = omega arith; few = omega arith; same = refl }
+passed_none text = record { few = omega arith; same = refl }
 
 module _ {text left : List ℕ} {number : ℕ} (passed : PassedOver text left number) where
   module _ {line rest : List ℕ} (cut : Parted line_feed left line rest) where
-    -- the line and what stands after its line feed lie in what is left, and that lies in the text
-    pub bounds : (length line + length rest < length left) × (length left ≤ length text)
-    bounds = (omega (arith, ap length cut.whole, length-append line (line_feed ∷ rest)), passed.within)
-
     pub passed_more : right_shape number line ≡ true → PassedOver text rest (number + 1)
-    passed_more right = record { within = omega (arith, bounds.0, bounds.1); few = omega (arith, passed.few, bounds.0); same = passed.same ∙ wrong_ended cut number ∙ rw right }
+    passed_more right = record { few = omega (arith, passed.few, rest_shorter cut); same = passed.same ∙ wrong_ended cut number ∙ rw right }
 
     pub wrong_here : right_shape number line ≡ false → wrong_line 1 (pieces line_feed text) ≡ Some number
     wrong_here wrong = passed.same ∙ wrong_ended cut number ∙ rw wrong
@@ -79,3 +74,20 @@ module _ {text left : List ℕ} {number : ℕ} (passed : PassedOver text left nu
     -- no line at all
     pub wrong_first : number ≡ 1 → wrong_line 1 (pieces line_feed text) ≡ Some number
     wrong_first e = passed.same ∙ wrong_open open_end number ∙ simp (eq-eqb number 1 e, and-false)
+
+-- ---- what is left lies in the text
+
+pub record PassedWithin (text left : List ℕ) (number : ℕ) : Type 0 where
+  pub within : length left ≤ length text
+  pub over : PassedOver text left number
+
+pub within_none : (text : List ℕ) → PassedWithin text text 1
+within_none text = record { within = omega arith; over = passed_none text }
+
+module _ {text left : List ℕ} {number : ℕ} (passed : PassedWithin text left number) {line rest : List ℕ} (cut : Parted line_feed left line rest) where
+  -- the line and what stands after its line feed lie in what is left, and that lies in the text
+  pub bounds : (length line + length rest < length left) × (length left ≤ length text)
+  bounds = (omega (arith, ap length cut.whole, length-append line (line_feed ∷ rest)), passed.within)
+
+  pub within_more : right_shape number line ≡ true → PassedWithin text rest (number + 1)
+  within_more right = record { within = omega (arith, bounds.0, bounds.1); over = passed_more passed.over cut right }
